@@ -1,11 +1,13 @@
 -- Which tokens an end takes, and what it refuses the others by.
-use Rattle.std.specs.Prelude.{◌≡◌, ◌⊎◌, ℕ, ◌+◌, ◌≤◌, ◌<◌, List, [], ◌∷◌, length, take, drop, slice_index, Bool, true, false, not, ◌&&◌, nat_le, nat_lt, nat_eq, bytes_eq, Result, Ok, Err, if◌then◌else◌}
+use Rattle.std.specs.Prelude.{◌≡◌, ◌⊎◌, ℕ, ◌+◌, ◌≤◌, ◌<◌, List, length, take, drop, slice_index, Bool, true, false, not, ◌&&◌, nat_le, nat_lt, nat_eq, bytes_eq, Result, Ok, Err, if◌then◌else◌}
 use Rattle.std.specs.Bool.{beq}
 use Rattle.byte_layouts.specs.Numbers.{be16_at, be64, be64_at}
 use Rattle.byte_layouts.specs.Parts.{part, Stands}
 use Rattle.aes_cts.specs.declared.error.KerberosCryptoError.{KerberosCryptoError}
 use Rattle.aes_cts.specs.declared.error.KerberosCryptoError.TheVariants as crypto
 use Rattle.krb_crypto.specs.Sealing.{IsSealedBy}
+use Rattle.krb_constants.specs.declared.gss_api.TheConstants.{ACCEPTOR_SUBKEY, MIC_FILLER, MIC_TOKEN_ID, SEALED, SENT_BY_ACCEPTOR, WRAP_FILLER, WRAP_TOKEN_ID}
+use Rattle.gss_message_tokens.specs.declared.kind.TheConstants.{HEADER_LEN}
 use Rattle.gss_contexts.specs.Contexts.{ContextRecord, IsInOrder, is_gap, peer, last_number}
 use Rattle.gss_contexts.specs.Tokens.{is_acceptor, is_set, rotated_right, seal_usage, Carries, IsMicOf, IsWrapOf}
 use Rattle.gss_contexts.specs.declared.refusal.TokenRefusal.{TokenRefusal}
@@ -17,13 +19,13 @@ use Rattle.gss_contexts.specs.declared.side.Protection.TheVariants.{Sealed, Chec
 -- the octets begin as a MIC token does, without the flag Sealed (RFC 4121, section 4.2.6.1)
 abbrev pub is_mic : List ℕ → Bool
 is_mic token =
-    nat_le 16 (length token) && bytes_eq (take 2 token) (4 ∷ 4 ∷ [])
-    && bytes_eq (take 5 (drop 3 token)) (255 ∷ 255 ∷ 255 ∷ 255 ∷ 255 ∷ []) && not (is_set (slice_index token 2) 2)
+    nat_le HEADER_LEN (length token) && bytes_eq (take 2 token) MIC_TOKEN_ID
+    && bytes_eq (take 5 (drop 3 token)) MIC_FILLER && not (is_set (slice_index token 2) SEALED)
 
 -- the octets begin as a wrap token does (section 4.2.6.2)
 abbrev pub is_wrap : List ℕ → Bool
 is_wrap token =
-    nat_le 16 (length token) && bytes_eq (take 2 token) (5 ∷ 4 ∷ []) && nat_eq (slice_index token 3) 255
+    nat_le HEADER_LEN (length token) && bytes_eq (take 2 token) WRAP_TOKEN_ID && nat_eq (slice_index token 3) WRAP_FILLER
 
 -- The number of a token whose header is the peer's, or the first refusal: of its id and filler, of its direction, of its subkey's flag, and
 -- of its number (RFC 4121, section 4.2).
@@ -33,10 +35,10 @@ judged c is_token token =
     -- filler of the header, a short token.`.
     if not is_token then Err NoSuchToken
     -- The flag SentByAcceptor names the other side (RFC 4121, section 4.2.2). Test: `unwrap OwnDirection`, `verify_mic OwnDirection`.
-    else if beq (is_set (slice_index token 2) 1) (is_acceptor c.side) then Err OwnDirection
+    else if beq (is_set (slice_index token 2) SENT_BY_ACCEPTOR) (is_acceptor c.side) then Err OwnDirection
     -- The flag AcceptorSubkey is set if and only if the context's key is the acceptor's subkey (RFC 4121, section 4.2.2). Test: `unwrap
     -- OtherKey`, `verify_mic OtherKey`.
-    else if not (beq (is_set (slice_index token 2) 4) c.acceptor_subkey) then Err OtherKey
+    else if not (beq (is_set (slice_index token 2) ACCEPTOR_SUBKEY) c.acceptor_subkey) then Err OtherKey
     -- The sequence number is the least that is taken, or a higher one: numbers may be left out (RFC 4121, section 4.2.1). Test: `unwrap
     -- OldNumber`, `verify_mic OldNumber`.
     else if nat_lt (be64_at 8 token) c.taking then Err OldNumber
@@ -49,8 +51,8 @@ judged c is_token token =
 
 -- the header is the peer's, with a number that isn't old, isn't the last, and in sequence is the next one
 pub record IsPeersHeader (c : ContextRecord) (token : List ℕ) (number : ℕ) : Type 0 where
-  pub by_acceptor : is_set (slice_index token 2) 1 ≡ is_acceptor (peer c).side
-  pub under_subkey : is_set (slice_index token 2) 4 ≡ c.acceptor_subkey
+  pub by_acceptor : is_set (slice_index token 2) SENT_BY_ACCEPTOR ≡ is_acceptor (peer c).side
+  pub under_subkey : is_set (slice_index token 2) ACCEPTOR_SUBKEY ≡ c.acceptor_subkey
   pub is_new : c.taking ≤ number
   pub in_order : IsInOrder c number
   pub followed : number < last_number
@@ -90,7 +92,7 @@ protection_of false = Checksum
 
 -- the data that follow the token's header, before they were rotated
 abbrev pub IsTextOf : List ℕ → List ℕ → Type 0
-IsTextOf token text = rotated_right (be16_at 6 token) text ≡ drop 16 token
+IsTextOf token text = rotated_right (be16_at 6 token) text ≡ drop HEADER_LEN token
 
 -- the data are this message's
 pub record IsCarried (sender : Sender) (protection : Protection) (confounder message token : List ℕ) : Type 0 where
@@ -119,7 +121,7 @@ abbrev pub IsWrapRefusal : ContextRecord → List ℕ → TokenRefusal → Type 
 IsWrapRefusal c token e =
     (judged c (is_wrap token) token ≡ Err e)
     ⊎ (((number : ℕ) × (judged c (is_wrap token) token ≡ Ok number))
-    × ((e ≡ Memory) ⊎ IsUnopened (peer c) (protection_of (is_set (slice_index token 2) 2)) token e))
+    × ((e ≡ Memory) ⊎ IsUnopened (peer c) (protection_of (is_set (slice_index token 2) SEALED)) token e))
 
 -- the refusal of a token that isn't decrypted
 abbrev pub refusal_of : KerberosCryptoError → TokenRefusal

@@ -6,6 +6,8 @@ use Rattle.krb_crypto.specs.Sealing.{IsSealedBy, checksum_of}
 use Rattle.krb_crypto.specs.Suites.{cipher_checksum}
 use Rattle.krb_crypto.specs.Keys.{KeyRecord}
 use Rattle.krb_constants.specs.declared.key_usages.TheConstants.{ACCEPTOR_SEAL, ACCEPTOR_SIGN, INITIATOR_SEAL, INITIATOR_SIGN}
+use Rattle.krb_constants.specs.declared.gss_api.TheConstants.{ACCEPTOR_SUBKEY, SEALED, SENT_BY_ACCEPTOR}
+use Rattle.gss_message_tokens.specs.declared.kind.TheConstants.{HEADER_LEN}
 use Rattle.gss_message_tokens.specs.Tokens.{IsMicToken, IsWrapToken}
 use Rattle.gss_contexts.specs.declared.sender.Sender.{Sender}
 use Rattle.gss_contexts.specs.declared.side.Side.{Side}
@@ -43,9 +45,9 @@ flag_if false flag = 0
 
 -- the flags are the sender's (section 4.2.2). Other flags are ignored
 pub record IsMarked (sender : Sender) (confidential : Bool) (flags : ℕ) : Type 0 where
-  pub by_acceptor : is_set flags 1 ≡ is_acceptor sender.side
-  pub sealed : is_set flags 2 ≡ confidential
-  pub under_subkey : is_set flags 4 ≡ sender.acceptor_subkey
+  pub by_acceptor : is_set flags SENT_BY_ACCEPTOR ≡ is_acceptor sender.side
+  pub sealed : is_set flags SEALED ≡ confidential
+  pub under_subkey : is_set flags ACCEPTOR_SUBKEY ≡ sender.acceptor_subkey
 
 -- the checksum under a key (RFC 3961, section 5.4)
 abbrev pub sum_of : KeyRecord → ℕ → List ℕ → List ℕ
@@ -58,7 +60,7 @@ pub record IsMicOf (sender : Sender) (number : ℕ) (message token : List ℕ) :
   pub laid : IsMicToken (record {
     flags = flags;
     seq_num = number;
-    checksum = sum_of sender.key (sign_usage sender.side) (message ++ take 16 token);
+    checksum = sum_of sender.key (sign_usage sender.side) (message ++ take HEADER_LEN token);
   }) token
 
 -- a token's header with RRC zero

@@ -6,12 +6,13 @@ ghost use Rattle.gss_contexts.specs.Judging.{IsMicRefusal, IsPeersHeader, IsWrap
 ghost use Rattle.gss_contexts.specs.Tokens.{WritesMic, WritesWrap};
 ghost use Rattle.gss_contexts.specs.declared.refusal.TokenRefusal.TheVariants.{Memory, NumbersUsedUp, OldSuite};
 
-use crate::header::{ACCEPTOR_SUBKEY, SENT_BY_ACCEPTOR, is_mic, is_set, is_wrap, protection_of};
+use crate::header::{is_mic, is_set, is_wrap, protection_of};
 use crate::refusal::TokenRefusal;
 use crate::sender::Sender;
 use crate::side::{Protection, Side};
 use crate::terms::{ContextTerms, SequenceNumbers};
 use byte_layouts::u64_be;
+use krb_constants::gss_api::{ACCEPTOR_SUBKEY, SENT_BY_ACCEPTOR};
 use krb_crypto::{CipherSuite, Key};
 use krb_time::Moment;
 use std::alloc::Global;

@@ -7,12 +7,13 @@ ghost use Rattle.gss_contexts.specs.Tokens.{Carries, header_without_rrc, sign_us
 ghost use Rattle.gss_contexts.specs.declared.refusal.TokenRefusal.TheVariants.{Memory, OtherHeader};
 ghost use Rattle.gss_contexts.specs.declared.side.Protection.TheVariants.{Sealed, Checksum};
 
-use crate::header::{HEADER, header_without_counts, header_without_rrc};
+use crate::header::{header_without_counts, header_without_rrc};
 use crate::octets::{checksum, rotated_back};
 use crate::refusal::TokenRefusal;
 use crate::sender::Sender;
 use crate::side::Protection;
 use byte_layouts::u16_be;
+use gss_message_tokens::HEADER_LEN;
 use krb_crypto::KerberosCryptoError;
 use std::alloc::{AllocError, Global};
 
@@ -32,11 +33,11 @@ pub(crate) fn message_len(text: &[u8], ec: u16, header: &[u8]) -> Option<usize>
     ensures { MatchOption result ((m f : List ℕ) → length f ≡ ec → text.now ≡ m ++ (f ++ header.now) → ⊥)
         (λ n. (f : List ℕ) × (length f ≡ ec) × (text.now ≡ take n text.now ++ (f ++ header.now))) }
 {
-    let behind = usize::from(ec) + HEADER;
+    let behind = usize::from(ec) + HEADER_LEN;
     if text.len() < behind {
         return None;
     }
-    if &text[text.len() - HEADER..] != header {
+    if &text[text.len() - HEADER_LEN..] != header {
         return None;
     }
     Some(text.len() - behind)
@@ -68,7 +69,7 @@ impl Sender {
         requires { 16 ≤ length token.now }
         ensures { IfOk result (λ is_sum. is_sum ≡ bytes_eq (drop 16 token.now) (sum_of self.now.key (sign_usage (peer_of self.now).side) (message.now ++ take 16 token.now))) }
     {
-        let (header, carried) = token.split_at(HEADER);
+        let (header, carried) = token.split_at(HEADER_LEN);
         let usage = self.side.other().sign_usage();
         let sum = checksum(alloc, &self.key, usage, message, header)?;
         Ok(carried == sum.as_slice())
@@ -145,7 +146,7 @@ impl Sender {
         ensures only { IfOk result (λ m. (d n : List ℕ) → IsCarried (peer_of self.now) protection d n token.now → n ≡ m.items) }
         ensures refused { IfErr result (λ e. (e ≡ Memory) ⊎ IsUnopened (peer_of self.now) protection token.now e) }
     {
-        let text = rotated_back(alloc, u16_be(token, 6), &token[HEADER..])?;
+        let text = rotated_back(alloc, u16_be(token, 6), &token[HEADER_LEN..])?;
         self.read(alloc, protection, token, &text)
     }
 }

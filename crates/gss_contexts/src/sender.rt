@@ -4,9 +4,10 @@ ghost use Rattle.gss_contexts.specs.Contexts.{is_newer};
 ghost use Rattle.gss_contexts.specs.Tokens.{IsMarked, WritesMic, WritesWrap};
 ghost use Rattle.gss_contexts.specs.declared.side.Protection.TheVariants.{Sealed, Checksum};
 
-use crate::header::{ACCEPTOR_SUBKEY, SEALED, SENT_BY_ACCEPTOR, flag_if, mic_header, wrap_header};
+use crate::header::{flag_if, mic_header, wrap_header};
 use crate::octets::{checksum, joined};
 use crate::side::{Protection, Side};
+use krb_constants::gss_api::{ACCEPTOR_SUBKEY, SEALED, SENT_BY_ACCEPTOR};
 use krb_crypto::Key;
 use std::alloc::{AllocError, Global};
 

@@ -1,6 +1,8 @@
 -- When bytes begin as a token does, and else what is first wrong with them (RFC 4121, section 4.2.6).
-use Rattle.std.specs.Prelude.{ℕ, List, [], ◌∷◌, length, take, drop, slice_index, Result, Ok, Err, not, ◌&&◌, nat_le, nat_lt, nat_eq, bytes_eq, if◌then◌else◌}
+use Rattle.std.specs.Prelude.{ℕ, List, length, take, drop, slice_index, Result, Ok, Err, not, ◌&&◌, nat_le, nat_lt, nat_eq, bytes_eq, if◌then◌else◌}
 use Rattle.std.specs.declared.io.ErrorKind.{ErrorKind}
+use Rattle.krb_constants.specs.declared.gss_api.TheConstants.{MIC_FILLER, MIC_TOKEN_ID, WRAP_FILLER, WRAP_TOKEN_ID}
+use Rattle.gss_message_tokens.specs.declared.kind.TheConstants.{HEADER_LEN}
 use Rattle.gss_message_tokens.specs.declared.kind.TokenKind.{TokenKind}
 use Rattle.gss_message_tokens.specs.declared.kind.TokenKind.TheVariants.{Mic, Wrap}
 use Rattle.gss_message_tokens.specs.declared.error.GssApiMessageError.{GssApiMessageError}
@@ -8,12 +10,12 @@ use Rattle.gss_message_tokens.specs.declared.error.GssApiMessageError.TheVariant
 
 -- TOK_ID, octets 0 and 1
 abbrev pub id_of : TokenKind → List ℕ
-id_of Mic = 4 ∷ 4 ∷ []
-id_of Wrap = 5 ∷ 4 ∷ []
+id_of Mic = MIC_TOKEN_ID
+id_of Wrap = WRAP_TOKEN_ID
 
 -- octets 3 to 7 of a MIC token
 abbrev pub mic_filler : List ℕ
-mic_filler = 255 ∷ 255 ∷ 255 ∷ 255 ∷ 255 ∷ []
+mic_filler = MIC_FILLER
 
 -- nothing is wrong, or this is
 abbrev pub Verdict : Type 0
@@ -32,7 +34,7 @@ mic_filler_judged whole =
 -- a wrap token's filler that is there isn't FF (RFC 4121, section 4.2.6.2)
 abbrev pub wrap_filler_judged : List ℕ → Verdict
 wrap_filler_judged whole =
-    if nat_le 4 (length whole) && not (nat_eq (slice_index whole 3) 255) then Err (InvalidWrapFiller (slice_index whole 3)) else Ok tt
+    if nat_le 4 (length whole) && not (nat_eq (slice_index whole 3) WRAP_FILLER) then Err (InvalidWrapFiller (slice_index whole 3)) else Ok tt
 
 -- the verdict on the filler of a token of this kind
 abbrev pub filler_judged : TokenKind → List ℕ → Verdict
@@ -41,7 +43,7 @@ filler_judged Wrap = wrap_filler_judged
 
 -- a header that isn't all there: `short` says why
 abbrev pub length_judged : ErrorKind → List ℕ → Verdict
-length_judged short whole = if nat_lt (length whole) 16 then Err (IoError short) else Ok tt
+length_judged short whole = if nat_lt (length whole) HEADER_LEN then Err (IoError short) else Ok tt
 
 -- the first fault, or else the second
 abbrev pub or_else : Verdict → Verdict → Verdict

@@ -3,6 +3,8 @@ use Rattle.std.specs.Prelude.{◌≡◌, ℕ, ◌≤◌, List, [], ◌∷◌, le
 use Rattle.std.specs.Global.{Global}
 use Rattle.byte_layouts.specs.Parts.{Part, part, IsLaidOut}
 use Rattle.byte_layouts.specs.Numbers.{be16, be64}
+use Rattle.krb_constants.specs.declared.gss_api.TheConstants.{MIC_FILLER, MIC_TOKEN_ID, WRAP_FILLER, WRAP_TOKEN_ID}
+use Rattle.gss_message_tokens.specs.declared.kind.TheConstants.{HEADER_LEN}
 use Rattle.gss_message_tokens.specs.declared.mic.MicToken.{MicToken}
 use Rattle.gss_message_tokens.specs.declared.wrap.WrapToken.{WrapToken}
 
@@ -15,14 +17,14 @@ pub record MicFields : Type 0 where
 -- octets 0 and 1 TOK_ID, 2 flags, 3 to 7 filler, 8 to 15 SND_SEQ
 abbrev pub mic_header : MicFields → List Part
 mic_header m =
-    part 0 (4 ∷ 4 ∷ []) ∷ part 2 (m.flags ∷ []) ∷ part 3 (255 ∷ 255 ∷ 255 ∷ 255 ∷ 255 ∷ []) ∷ part 8 (be64 m.seq_num) ∷ []
+    part 0 MIC_TOKEN_ID ∷ part 2 (m.flags ∷ []) ∷ part 3 MIC_FILLER ∷ part 8 (be64 m.seq_num) ∷ []
 
 -- A MIC token is TOK_ID 04 04, flags, five octets FF, SND_SEQ, and from octet 16 to the end SGN_CKSUM (RFC 4121, section 4.2.6.1).
 -- Test: `mic_token` of `tokens.rt`.
 pub record IsMicToken (m : MicFields) (whole : List ℕ) : Type 0 where
   pub header : IsLaidOut (mic_header m) whole
-  pub long : 16 ≤ length whole
-  pub checksum : drop 16 whole ≡ m.checksum
+  pub long : HEADER_LEN ≤ length whole
+  pub checksum : drop HEADER_LEN whole ≡ m.checksum
 
 -- what a wrap token carries
 pub record WrapFields : Type 0 where
@@ -35,15 +37,15 @@ pub record WrapFields : Type 0 where
 -- octets 0 and 1 TOK_ID, 2 flags, 3 filler, 4 and 5 EC, 6 and 7 RRC, 8 to 15 SND_SEQ
 abbrev pub wrap_header : WrapFields → List Part
 wrap_header w =
-    part 0 (5 ∷ 4 ∷ []) ∷ part 2 (w.flags ∷ []) ∷ part 3 (255 ∷ []) ∷ part 4 (be16 w.ec) ∷ part 6 (be16 w.rrc) ∷ part 8 (be64 w.seq_num) ∷ []
+    part 0 WRAP_TOKEN_ID ∷ part 2 (w.flags ∷ []) ∷ part 3 (WRAP_FILLER ∷ []) ∷ part 4 (be16 w.ec) ∷ part 6 (be16 w.rrc) ∷ part 8 (be64 w.seq_num) ∷ []
 
 -- A wrap token is TOK_ID 05 04, flags, FF, EC, RRC, SND_SEQ, and from octet 16 to the end the data (RFC 4121, section 4.2.6.2). Test:
 -- `wrap_token` of `tokens.rt`.
 -- Not judged: EC and RRC; nothing is decrypted. Test: `wrap_token` of `tokens.rt`.
 pub record IsWrapToken (w : WrapFields) (whole : List ℕ) : Type 0 where
   pub header : IsLaidOut (wrap_header w) whole
-  pub long : 16 ≤ length whole
-  pub checksum : drop 16 whole ≡ w.checksum
+  pub long : HEADER_LEN ≤ length whole
+  pub checksum : drop HEADER_LEN whole ≡ w.checksum
 
 -- the fields of a MIC token; its payload is neither written nor read
 abbrev pub mic_of : MicToken → MicFields

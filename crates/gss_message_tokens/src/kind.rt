@@ -3,11 +3,11 @@ ghost use Rattle.std.specs.Prelude.{◌≡◌};
 ghost use Rattle.gss_message_tokens.specs.Judging.{id_of, id_judged, mic_filler_judged, wrap_filler_judged, filler_judged, judged};
 
 use crate::error::GssApiMessageError;
-use krb_constants::gss_api::{MIC_FILLER, WRAP_FILLER};
+use krb_constants::gss_api::{MIC_FILLER, MIC_TOKEN_ID, WRAP_FILLER, WRAP_TOKEN_ID};
 use std::io::ErrorKind;
 
-/// The length of a token's header: the bytes before its checksum.
-pub(crate) const HEADER_LEN: usize = 16;
+/// The length of a token's header: the bytes before its checksum (RFC 4121, sections 4.2.6.1 and 4.2.6.2).
+pub const HEADER_LEN: usize = 16;
 
 /// The two tokens that carry a sequence number (RFC 4121, sections 4.2.6.1 and 4.2.6.2).
 #[derive(Clone, Copy, Debug)]
@@ -23,8 +23,8 @@ pub(crate) fn id(kind: TokenKind) -> [u8; 2]
     ensures { result ≡ id_of kind }
 {
     match kind {
-        TokenKind::Mic => [4, 4],
-        TokenKind::Wrap => [5, 4],
+        TokenKind::Mic => MIC_TOKEN_ID,
+        TokenKind::Wrap => WRAP_TOKEN_ID,
     }
 }
 

@@ -15,5 +15,6 @@ mod wrap;
 
 pub use error::GssApiMessageError;
 pub use integrity::{LsapTokenInfoIntegrity, LsapTokenInfoIntegrityError, MACHINE_ID_LENGTH};
+pub use kind::HEADER_LEN;
 pub use mic::MicToken;
 pub use wrap::WrapToken;

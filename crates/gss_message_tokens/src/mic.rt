@@ -1,17 +1,18 @@
 //! The MIC token (RFC 4121, section 4.2.6.1).
-ghost use Rattle.std.specs.Prelude.{◌≡◌, ℕ, ◌<◌, ◌^◌, List, [], length, take, None, Some, Ok, Err, IfOk, IfErr, IfSome, IsTrue, MatchResult};
+ghost use Rattle.std.specs.Prelude.{◌≡◌, ℕ, ◌<◌, ◌^◌, List, [], length, take, None, Some, Ok, Err, IfOk, IfErr, IfSome, IsTrue, MatchResult, bit_or};
 ghost use Rattle.std.specs.Io.KnownBytes.{Consumes, IsAtEnd, Appends};
 ghost use Rattle.byte_layouts.specs.Parts.{IsLaidOut};
 ghost use Rattle.gss_message_tokens.specs.Faults.{IsWriteFault};
 ghost use Rattle.gss_message_tokens.specs.Refusals.{IsRefusal, IsExcuse, TellsRead};
 ghost use Rattle.gss_message_tokens.specs.declared.kind.TokenKind.{TokenKind};
+ghost use Rattle.krb_constants.specs.declared.gss_api.TheConstants.{ACCEPTOR_SUBKEY, SENT_BY_ACCEPTOR};
 
 use crate::error::GssApiMessageError;
 use crate::kind::{HEADER_LEN, TokenKind, id};
 use crate::token::{read_token, write_token};
 use byte_layouts::{put_at, u64_be, u64_be_bytes};
 use byte_streams::{Sink, Source};
-use krb_constants::gss_api::MIC_FILLER;
+use krb_constants::gss_api::{ACCEPTOR_SUBKEY, MIC_FILLER, SENT_BY_ACCEPTOR};
 use std::alloc::{AllocError, Global};
 
 /// What `GSS_GetMIC` makes: a checksum over a payload that travels elsewhere, with a sequence number.
@@ -49,11 +50,11 @@ impl MicToken {
 
     /// An initiator's token, under the acceptor's subkey, with number 0 and no checksum yet.
     pub fn with_initiator_flags(alloc: Global) -> MicToken
-        ensures fields { mic_of result ≡ record { flags = 4; seq_num = 0; checksum = [] } }
+        ensures fields { mic_of result ≡ record { flags = ACCEPTOR_SUBKEY; seq_num = 0; checksum = [] } }
         ensures payload { result.payload ≡ None }
     {
         MicToken {
-            flags: 4,
+            flags: ACCEPTOR_SUBKEY,
             seq_num: 0,
             payload: None,
             checksum: Vec::new(alloc),
@@ -62,11 +63,11 @@ impl MicToken {
 
     /// An acceptor's token, under the acceptor's subkey, with number 0 and no checksum yet.
     pub fn with_acceptor_flags(alloc: Global) -> MicToken
-        ensures fields { mic_of result ≡ record { flags = 5; seq_num = 0; checksum = [] } }
+        ensures fields { mic_of result ≡ record { flags = bit_or SENT_BY_ACCEPTOR ACCEPTOR_SUBKEY; seq_num = 0; checksum = [] } }
         ensures payload { result.payload ≡ None }
     {
         MicToken {
-            flags: 5,
+            flags: SENT_BY_ACCEPTOR | ACCEPTOR_SUBKEY,
             seq_num: 0,
             payload: None,
             checksum: Vec::new(alloc),

@@ -1,17 +1,18 @@
 //! The wrap token (RFC 4121, section 4.2.6.2).
-ghost use Rattle.std.specs.Prelude.{◌≡◌, ℕ, ◌<◌, ◌^◌, List, [], length, take, None, Ok, Err, IfOk, IfErr, IfSome, IsTrue, MatchResult};
+ghost use Rattle.std.specs.Prelude.{◌≡◌, ℕ, ◌<◌, ◌^◌, List, [], length, take, None, Ok, Err, IfOk, IfErr, IfSome, IsTrue, MatchResult, bit_or};
 ghost use Rattle.std.specs.Io.KnownBytes.{Consumes, IsAtEnd, Appends};
 ghost use Rattle.byte_layouts.specs.Parts.{IsLaidOut};
 ghost use Rattle.gss_message_tokens.specs.Faults.{IsWriteFault};
 ghost use Rattle.gss_message_tokens.specs.Refusals.{IsRefusal, IsExcuse, TellsRead};
 ghost use Rattle.gss_message_tokens.specs.declared.kind.TokenKind.{TokenKind};
+ghost use Rattle.krb_constants.specs.declared.gss_api.TheConstants.{ACCEPTOR_SUBKEY, SEALED};
 
 use crate::error::GssApiMessageError;
 use crate::kind::{HEADER_LEN, TokenKind, id};
 use crate::token::{read_token, write_token};
 use byte_layouts::{put_at, u16_be, u16_be_bytes, u64_be, u64_be_bytes};
 use byte_streams::{Sink, Source};
-use krb_constants::gss_api::WRAP_FILLER;
+use krb_constants::gss_api::{ACCEPTOR_SUBKEY, SEALED, WRAP_FILLER};
 use std::alloc::{AllocError, Global};
 
 /// What `GSS_Wrap` makes: a header with a sequence number, and the payload, sealed or with a checksum.
@@ -55,11 +56,11 @@ impl WrapToken {
 
     /// An initiator's sealed token, under the acceptor's subkey, with nothing after its header yet.
     pub fn with_seq_number(alloc: Global, seq_num: u64) -> WrapToken
-        ensures fields { wrap_of result ≡ record { flags = 6; ec = 0; rrc = 0; seq_num = seq_num; checksum = [] } }
+        ensures fields { wrap_of result ≡ record { flags = bit_or SEALED ACCEPTOR_SUBKEY; ec = 0; rrc = 0; seq_num = seq_num; checksum = [] } }
         ensures payload { result.payload ≡ None }
     {
         WrapToken {
-            flags: 6,
+            flags: SEALED | ACCEPTOR_SUBKEY,
             ec: 0,
             rrc: 0,
             seq_num,
