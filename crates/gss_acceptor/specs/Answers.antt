@@ -3,6 +3,7 @@ use Rattle.std.specs.Prelude.{ℕ, [], ◌∷◌, ◌++◌, Option, None, Some}
 use Rattle.std.specs.Option.{option_map}
 use Rattle.picky_asn1.specs.Bytes.{Bytes}
 use Rattle.asn1_der.specs.Length.{element}
+use Rattle.krb_constants.specs.declared.gss_api.TheConstants.{ACCEPT_COMPLETE, ACCEPT_INCOMPLETE, REQUEST_MIC}
 use Rattle.gss_acceptor.specs.Mechanisms.{mechanism_octets}
 use Rattle.gss_acceptor.specs.Tokens.{ap_rep_token}
 use Rattle.gss_acceptor.specs.declared.answer.NegState.{NegState}
@@ -14,15 +15,15 @@ use Rattle.asn1_der.specs.Octets.{context_0_octet, context_1_octet, context_2_oc
 abbrev pub ap_rep_in : Option Bytes → Option Bytes
 ap_rep_in reply = option_map ap_rep_token reply
 
--- the number of a negState (RFC 4178, section 4.2.2)
-abbrev pub state_number : NegState → ℕ
-state_number AcceptCompleted = 0
-state_number AcceptIncomplete = 1
-state_number RequestMic = 3
+-- the element of a negState (RFC 4178, section 4.2.2)
+abbrev pub state_element : NegState → Bytes
+state_element AcceptCompleted = ACCEPT_COMPLETE
+state_element AcceptIncomplete = ACCEPT_INCOMPLETE
+state_element RequestMic = REQUEST_MIC
 
 -- the field negState, under the tag [0] (RFC 4178, section 4.2.2)
 abbrev pub state_field : NegState → Bytes
-state_field state = context_0_octet ∷ 3 ∷ 10 ∷ 1 ∷ state_number state ∷ []
+state_field state = context_0_octet ∷ 3 ∷ state_element state
 
 -- the field supportedMech, under the tag [1], if a mechanism is named (RFC 4178, section 4.2.2)
 abbrev pub supported_field : Option Mechanism → Bytes

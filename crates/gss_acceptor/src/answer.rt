@@ -1,12 +1,13 @@
 //! The answers to an initiator: tokens of Kerberos, and of SPNEGO.
 ghost use Rattle.std.specs.Prelude.{◌≡◌, IfOk};
 ghost use Rattle.std.specs.Option.{option_map};
-ghost use Rattle.gss_acceptor.specs.Answers.{ap_rep_in, neg_token_resp, octets_field, state_field, supported_field};
+ghost use Rattle.gss_acceptor.specs.Answers.{ap_rep_in, neg_token_resp, octets_field, state_element, state_field, supported_field};
 
 use crate::elements::{element_of, joined};
 use crate::mechanism::Mechanism;
 use crate::token::ap_rep_token;
 use asn1_der::octets::{CONTEXT_0, CONTEXT_2, CONTEXT_3};
+use krb_constants::gss_api::{ACCEPT_COMPLETE, ACCEPT_INCOMPLETE, REQUEST_MIC};
 use std::alloc::{AllocError, Global};
 
 /// Where a negotiation stands (RFC 4178, section 4.2.2).
@@ -21,15 +22,24 @@ pub enum NegState {
 }
 
 impl NegState {
+    /// The element of the state.
+    fn element(self) -> [u8; 3]
+        ensures { result ≡ state_element self }
+    {
+        match self {
+            NegState::AcceptCompleted => ACCEPT_COMPLETE,
+            NegState::AcceptIncomplete => ACCEPT_INCOMPLETE,
+            NegState::RequestMic => REQUEST_MIC,
+        }
+    }
+
     /// The element of `negState`.
     fn field(self) -> [u8; 5]
         ensures { result ≡ state_field self }
     {
-        match self {
-            NegState::AcceptCompleted => [CONTEXT_0, 0x03, 0x0a, 0x01, 0x00],
-            NegState::AcceptIncomplete => [CONTEXT_0, 0x03, 0x0a, 0x01, 0x01],
-            NegState::RequestMic => [CONTEXT_0, 0x03, 0x0a, 0x01, 0x03],
-        }
+        let mut field = [CONTEXT_0, 3, 0, 0, 0];
+        field[2..].copy_from_slice(&self.element());
+        field
     }
 }
 

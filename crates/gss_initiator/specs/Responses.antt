@@ -1,5 +1,5 @@
 -- What an initiator takes as the acceptor's answer of SPNEGO (RFC 4178, section 4.2.2).
-use Rattle.std.specs.Prelude.{[], ◌∷◌, not, is_some, Bool, true, false, Option, None, Some, Result, Ok, Err, if◌then◌else◌}
+use Rattle.std.specs.Prelude.{not, is_some, Bool, true, false, Option, None, Some, Result, Ok, Err, if◌then◌else◌}
 use Rattle.std.specs.Bool.{nat_eq}
 use Rattle.std.specs.Cmp.Lexicographic.{pointwise}
 use Rattle.std.specs.Option.{option_map}
@@ -9,6 +9,7 @@ use Rattle.asn1_elements.specs.Raw.{Raw}
 use Rattle.picky_asn1_der.specs.declared.wrapper.ExplicitContextTag.{ExplicitContextTag}
 use Rattle.picky_asn1.specs.declared.wrapper.ObjectIdentifierAsn1.{ObjectIdentifierAsn1}
 use Rattle.decision_tables.specs.Tables.{Table, and_then, ask, done, refuse}
+use Rattle.krb_constants.specs.declared.gss_api.TheConstants.{ACCEPT_COMPLETE, ACCEPT_INCOMPLETE, REJECT, REQUEST_MIC}
 use Rattle.gss_contexts.specs.Contexts.{ContextRecord}
 use Rattle.gss_context_tokens.specs.declared.neg_token_targ.NegTokenTarg.{NegTokenTarg}
 use Rattle.gss_acceptor.specs.Mechanisms.{kerberos_in}
@@ -29,10 +30,10 @@ is_as octets expected = pointwise nat_eq octets expected
 -- request-mic (3). A rejection is refused as one (RFC 4178, section 4.2.2). Test: `take Rejected`, `take NotAToken`.
 abbrev pub due_by : Bytes → Result Bool InitiateRefusal
 due_by octets =
-    if is_as octets (10 ∷ 1 ∷ 0 ∷ []) then Ok false
-    else if is_as octets (10 ∷ 1 ∷ 1 ∷ []) then Ok true
-    else if is_as octets (10 ∷ 1 ∷ 3 ∷ []) then Ok true
-    else if is_as octets (10 ∷ 1 ∷ 2 ∷ []) then Err Rejected
+    if is_as octets ACCEPT_COMPLETE then Ok false
+    else if is_as octets ACCEPT_INCOMPLETE then Ok true
+    else if is_as octets REQUEST_MIC then Ok true
+    else if is_as octets REJECT then Err Rejected
     else Err NotAToken
 
 -- whether a further token of the initiator is due, by the field negState

@@ -10,17 +10,10 @@ use crate::refusal::InitiateRefusal;
 use gss_acceptor::{kerberos_in, octets_in};
 use gss_context_tokens::{MechType, NegTokenTarg, NegTokenTarg1};
 use gss_contexts::Context;
-use krb_constants::gss_api::ACCEPT_INCOMPLETE;
+use krb_constants::gss_api::{ACCEPT_COMPLETE, ACCEPT_INCOMPLETE, REJECT, REQUEST_MIC};
 use picky_asn1::wrapper::OctetStringAsn1;
 use picky_asn1_der::{Asn1RawDer, ExplicitContextTag, read_whole};
 use std::alloc::Global;
-
-/// The elements of the states (RFC 4178, section 4.2.2).
-const ACCEPT_COMPLETED: [u8; 3] = [0x0a, 0x01, 0x00];
-
-const REJECT: [u8; 3] = [0x0a, 0x01, 0x02];
-
-const REQUEST_MIC: [u8; 3] = [0x0a, 0x01, 0x03];
 
 /// What an answer of SPNEGO says, with its tokens.
 #[derive(Drop)]
@@ -153,7 +146,7 @@ fn due_in(state: &Option<ExplicitContextTag<0, Asn1RawDer>>) -> Result<bool, Ini
 fn due_by(octets: &[u8]) -> Result<bool, InitiateRefusal>
     ensures { result ≡ due_by octets.now }
 {
-    if octets == ACCEPT_COMPLETED.as_slice() {
+    if octets == ACCEPT_COMPLETE.as_slice() {
         return Ok(false);
     }
     if octets == ACCEPT_INCOMPLETE.as_slice() {
