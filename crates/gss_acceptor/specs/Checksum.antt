@@ -6,6 +6,7 @@ use Rattle.picky_asn1.specs.Numbers.{is_number}
 use Rattle.byte_layouts.specs.Numbers.{le32_at}
 use Rattle.krb_constants.specs.declared.cksum_types.TheConstants.{GSS_API}
 use Rattle.krb_types.specs.declared.data_types.checksum.Checksum.{Checksum}
+use Rattle.gss_acceptor.specs.declared.checksum.TheConstants.{BINDINGS, SIZE}
 use Rattle.gss_acceptor.specs.declared.checksum.InitialChecksum.{InitialChecksum}
 use Rattle.gss_acceptor.specs.declared.refusal.AcceptRefusal.{AcceptRefusal}
 use Rattle.gss_acceptor.specs.declared.refusal.AcceptRefusal.TheVariants.{NoChecksum, OtherBindings, OtherChecksum}
@@ -17,8 +18,8 @@ abbrev pub initial_sum : Bytes → Result InitialChecksum AcceptRefusal
 initial_sum octets =
     -- The checksum has 24 octets or more, and its first field, the length of the channel bindings, is 16 (RFC 4121, section 4.1.1).
     -- Test: `Refused after the admission.`.
-    if nat_lt (length octets) 24 then Err OtherChecksum
-    else (if not (le32_at 0 octets == 16) then Err OtherChecksum
+    if nat_lt (length octets) SIZE then Err OtherChecksum
+    else (if not (le32_at 0 octets == BINDINGS) then Err OtherChecksum
     else Ok (record { bindings = take 16 (drop 4 octets); flags = record { 0 = le32_at 20 octets } }))
 
 -- what a checksum says, or that it isn't an initiator's

@@ -15,6 +15,7 @@ use Rattle.gss_contexts.specs.Contexts.{ContextRecord, context_of, is_newer}
 use Rattle.gss_contexts.specs.Tokens.{is_set}
 use Rattle.gss_contexts.specs.declared.side.Side.TheVariants.{Acceptor}
 use Rattle.gss_contexts.specs.declared.terms.ContextTerms.{ContextTerms}
+use Rattle.gss_acceptor.specs.declared.context_flags.TheConstants.{SEQUENCE}
 use Rattle.gss_acceptor.specs.declared.checksum.ContextFlags.{ContextFlags}
 use Rattle.gss_acceptor.specs.declared.terms.AcceptorTerms.{AcceptorTerms}
 use Rattle.gss_acceptor.specs.declared.refusal.AcceptRefusal.{AcceptRefusal}
@@ -75,7 +76,7 @@ sending_number false false words number = number
 abbrev pub end_terms : AcceptorTerms → Micros → Random → AdmissionRecord → ContextFlags → ℕ → ContextTerms
 end_terms terms skew words admission flags number = record {
   acceptor_subkey = sends_subkey terms admission;
-  in_sequence = is_set flags.0 8;
+  in_sequence = is_set flags.0 SEQUENCE;
   ends = Some (seconds_of admission.endtime * 1000000 + skew);
   numbers = record { sending = sending_number (sends_subkey terms admission) (is_some admission.reply) words number; taking = number };
 }

@@ -6,6 +6,8 @@ use Rattle.md5.specs.Md5.{md5}
 use Rattle.krb_constants.specs.declared.cksum_types.TheConstants.{GSS_API}
 use Rattle.krb_types.specs.declared.data_types.checksum.Checksum.{Checksum}
 use Rattle.gss_contexts.specs.Tokens.{is_set}
+use Rattle.gss_acceptor.specs.declared.context_flags.TheConstants.{DELEGATION, MUTUAL, SEQUENCE}
+use Rattle.gss_acceptor.specs.declared.checksum.TheConstants.{BINDINGS}
 use Rattle.gss_acceptor.specs.declared.checksum.ContextFlags.{ContextFlags}
 use Rattle.gss_acceptor.specs.declared.checksum.InitialChecksum.{InitialChecksum}
 
@@ -21,7 +23,7 @@ bindings_of application = if nat_lt (length application) 4294967296 then Some (m
 -- The checksum has the type 0x8003. Its octets are the length 16 of the hash of the channel bindings, the hash, and the flags; the numbers
 -- are in four octets, the lowest first (RFC 4121, section 4.1.1). Test: `initiate Established`.
 abbrev pub initial_octets : InitialChecksum → Bytes
-initial_octets initial = (le32 16 ++ initial.bindings) ++ le32 initial.flags.0
+initial_octets initial = (le32 BINDINGS ++ initial.bindings) ++ le32 initial.flags.0
 
 -- the checksum of an authenticator with these bindings and flags (RFC 4121, section 4.1.1)
 abbrev pub initial_checksum : InitialChecksum → Checksum
@@ -30,12 +32,12 @@ initial_checksum initial = record { cksumtype = record { 0 = pos GSS_API }; chec
 -- Flags that ask for what isn't offered: delegation, which is 1, DCE style, and any other of 64 and more (RFC 4121, section 4.1.1.1).
 -- Test: `initiate NotOffered`.
 abbrev pub is_beyond : ContextFlags → Bool
-is_beyond flags = is_set flags.0 1 || nat_le 64 flags.0
+is_beyond flags = is_set flags.0 DELEGATION || nat_le 64 flags.0
 
 -- the initiator asks for an AP-REP (RFC 4121, section 4.1.1.1)
 abbrev pub is_mutual : ContextFlags → Bool
-is_mutual flags = is_set flags.0 2
+is_mutual flags = is_set flags.0 MUTUAL
 
 -- the initiator asks for sequencing (RFC 4121, section 4.1.1.1)
 abbrev pub is_in_sequence : ContextFlags → Bool
-is_in_sequence flags = is_set flags.0 8
+is_in_sequence flags = is_set flags.0 SEQUENCE
