@@ -1,7 +1,7 @@
 -- Tokens of the GSS-API: an element with the tag `[APPLICATION 0]`. It holds a mechanism's OBJECT IDENTIFIER and the mechanism's
 -- inner token (RFC 2743, section 3.1). The inner token of a Kerberos mechanism is a token id of two octets, and the message
 -- (RFC 4121, section 4.1).
-use Rattle.std.specs.Prelude.{◌≡◌, ℕ, List, [], ◌∷◌, ◌++◌, length}
+use Rattle.std.specs.Prelude.{◌≡◌, ℕ, List, ◌++◌, length}
 use Rattle.asn1_der.specs.Tree.{Tree, der, Writes}
 use Rattle.asn1_der.specs.Length.{element}
 use Rattle.asn1_der.specs.Tagged.{leaf_as, tagged_tree}
@@ -10,7 +10,7 @@ use Rattle.picky_asn1.specs.declared.wrapper.ObjectIdentifierAsn1.{ObjectIdentif
 use Rattle.x509_oids.specs.Identifiers.{iakerb5}
 use Rattle.gss_context_tokens.specs.Fronts.{Leads}
 use Rattle.asn1_der.specs.Octets.{object_identifier_octet}
-use Rattle.krb_constants.specs.declared.gss_api.TheConstants.{INITIAL_TOKEN}
+use Rattle.krb_constants.specs.declared.gss_api.TheConstants.{IAKERB_PROXY_TOKEN_ID, INITIAL_TOKEN}
 
 -- an OBJECT IDENTIFIER (X.690, section 8.19)
 abbrev pub mechanism_tree : ObjectIdentifierAsn1 → Tree
@@ -34,7 +34,7 @@ iakerb = record { 0 = iakerb5 }
 
 -- the token id of an IAKERB message (draft-ietf-kitten-iakerb-03, section 3)
 abbrev pub proxy_id : List ℕ
-proxy_id = 5 ∷ 1 ∷ []
+proxy_id = IAKERB_PROXY_TOKEN_ID
 
 -- the bytes begin with a token of IAKERB, and this follows its token id
 abbrev pub IsProxied : List ℕ → List ℕ → Type 0
