@@ -21,7 +21,7 @@ use Rattle.gss_acceptor.specs.declared.mechanism.Mechanism.{Mechanism}
 use Rattle.gss_acceptor.specs.declared.negotiation.Offer.{Offer}
 use Rattle.gss_acceptor.specs.declared.refusal.AcceptRefusal.{AcceptRefusal}
 use Rattle.gss_acceptor.specs.declared.refusal.AcceptRefusal.TheVariants.{NoKerberos, NotAToken, Memory}
-use Rattle.asn1_der.specs.Octets.{sequence_octet}
+use Rattle.asn1_der.specs.Octets.{object_identifier_octet, sequence_octet}
 use Rattle.krb_constants.specs.declared.gss_api.TheConstants.{INITIAL_TOKEN}
 
 -- the DER tree of a first token of SPNEGO, under the tag [APPLICATION 0] (RFC 2743, section 3.1)
@@ -42,7 +42,7 @@ is_spnego identifier = pointwise nat_eq (oid_content identifier.0) spnego_octets
 
 -- an identifier of the MechTypeList
 abbrev pub mech_type_tree : ObjectIdentifierAsn1 → Tree
-mech_type_tree identifier = leaf (is_object_identifier identifier.0) 6 (oid_content identifier.0)
+mech_type_tree identifier = leaf (is_object_identifier identifier.0) object_identifier_octet (oid_content identifier.0)
 
 -- MICs are over the DER encoding of the MechTypeList, with the context's next sequence numbers (RFC 4178, section 5; RFC 4121, section
 -- 4.2.6.1). Test: `SPNEGO: another mechanism`, `MICs that aren't due,`.

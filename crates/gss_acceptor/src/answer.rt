@@ -6,7 +6,9 @@ ghost use Rattle.gss_acceptor.specs.Answers.{ap_rep_in, neg_token_resp, octets_f
 use crate::elements::{element_of, joined};
 use crate::mechanism::Mechanism;
 use crate::token::ap_rep_token;
-use asn1_der::octets::{CONTEXT_0, CONTEXT_2, CONTEXT_3};
+use asn1_der::octets::{
+    CONTEXT_0, CONTEXT_1, CONTEXT_2, CONTEXT_3, OBJECT_IDENTIFIER, OCTET_STRING, SEQUENCE,
+};
 use krb_constants::gss_api::{ACCEPT_COMPLETE, ACCEPT_INCOMPLETE, REQUEST_MIC};
 use std::alloc::{AllocError, Global};
 
@@ -73,8 +75,8 @@ pub fn neg_token_resp(
     let supported = supported_field(alloc, supported)?;
     let behind = joined(alloc, &supported, &tokens)?;
     let fields = joined(alloc, &state.field(), &behind)?;
-    let sequence = element_of::<0x30>(alloc, fields)?;
-    element_of::<0xa1>(alloc, sequence)
+    let sequence = element_of::<SEQUENCE>(alloc, fields)?;
+    element_of::<CONTEXT_1>(alloc, sequence)
 }
 
 // The element of `supportedMech`, or nothing.
@@ -85,8 +87,8 @@ fn supported_field(alloc: Global, supported: Option<Mechanism>) -> Result<Vec<u8
         return Ok(Vec::new(alloc));
     };
     let octets = Vec::from_slice(alloc, &mechanism.octets())?;
-    let identifier = element_of::<0x06>(alloc, octets)?;
-    element_of::<0xa1>(alloc, identifier)
+    let identifier = element_of::<OBJECT_IDENTIFIER>(alloc, octets)?;
+    element_of::<CONTEXT_1>(alloc, identifier)
 }
 
 // The element of `responseToken` or `mechListMIC`, or nothing.
@@ -99,6 +101,6 @@ fn octets_field<const TAG: u8>(
     let Some(octets) = octets else {
         return Ok(Vec::new(alloc));
     };
-    let string = element_of::<0x04>(alloc, octets)?;
+    let string = element_of::<OCTET_STRING>(alloc, octets)?;
     element_of::<TAG>(alloc, string)
 }
