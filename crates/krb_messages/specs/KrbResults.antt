@@ -8,7 +8,7 @@ use Rattle.krb_messages.specs.declared.messages.krb_error.KrbErrorInner.{KrbErro
 use Rattle.krb_messages.specs.Messages.{krb_error_tree}
 
 -- the message's tree, or the error's
-abbrev pub result_tree : {T : Type 0} → (T → Tree) → Result T (ApplicationTag KrbErrorInner 30) → Tree
+abbrev pub result_tree : {T : Type 0} → (T → Tree) → Result T (ApplicationTag KrbErrorInner KRB_ERROR_MSG_TYPE) → Tree
 result_tree tree (Ok message) = tree message
 result_tree tree (Err error) = krb_error_tree error.0
 
