@@ -7,7 +7,7 @@ use Rattle.asn1_der.proofs.Elements.{element-one}
 use Rattle.decision_tables.specs.One.{IsSole}
 use Rattle.gss_acceptor.specs.Mechanisms.{mechanism_octets}
 use Rattle.gss_acceptor.specs.declared.mechanism.Mechanism.TheVariants.{Standard}
-use Rattle.krb_constants.specs.declared.gss_api.TheConstants.{INITIAL_TOKEN}
+use Rattle.krb_constants.specs.declared.gss_api.TheConstants.{AP_REP_TOKEN_ID, AP_REQ_TOKEN_ID, INITIAL_TOKEN}
 
 -- the mechanism's identifier (`06 09 ..`), and the token ids of an AP-REQ and of an AP-REP
 abbrev pub ap_req_front : Bytes
@@ -17,10 +17,10 @@ abbrev pub ap_rep_front : Bytes
 ap_rep_front = 6 ∷ 9 ∷ 42 ∷ 134 ∷ 72 ∷ 134 ∷ 247 ∷ 18 ∷ 1 ∷ 2 ∷ 2 ∷ 2 ∷ 0 ∷ []
 
 -- the identifier is Kerberos's
-ap_req_mechanism : ap_req_front ≡ 6 ∷ 9 ∷ (mechanism_octets Standard ++ 1 ∷ 0 ∷ [])
+ap_req_mechanism : ap_req_front ≡ 6 ∷ 9 ∷ (mechanism_octets Standard ++ AP_REQ_TOKEN_ID)
 ap_req_mechanism = refl
 
-ap_rep_mechanism : ap_rep_front ≡ 6 ∷ 9 ∷ (mechanism_octets Standard ++ 2 ∷ 0 ∷ [])
+ap_rep_mechanism : ap_rep_front ≡ 6 ∷ 9 ∷ (mechanism_octets Standard ++ AP_REP_TOKEN_ID)
 ap_rep_mechanism = refl
 
 -- the token holds this AP-REQ, and nothing follows it
