@@ -24,12 +24,13 @@ pub part_is : (position size : ℕ) (bytes buffer : List ℕ) → position + siz
 unfolding part_at
 part_is position size bytes buffer within same = rw (le-ltb (length bytes) (position + size) within) (ap (λ (part : List ℕ). Ok part) (sym same))
 
--- a read that failed, and one that was complete
+-- where a read failed, so does `part_at`, or it is damaged
 pub part_fails : (fails : ErrorKind → Type 0) (fault : Fault) (position size : ℕ) (bytes buffer : List ℕ) → length buffer ≡ size → ReadsAt fails (Err fault) position bytes buffer → Fails fails fault (part_at position size bytes)
 part_fails fails (Failed kind) position size bytes buffer sized read = read
 part_fails fails Damaged position size bytes buffer sized read = part_damaged position size bytes (omega (arith, sized, read))
 part_fails fails Long position size bytes buffer sized read = absurd read
 
+-- where a read was complete, `part_at` gives the buffer
 pub part_read : (position size : ℕ) (bytes buffer : List ℕ) → length buffer ≡ size → IsFilled position bytes buffer → part_at position size bytes ≡ Ok buffer
 part_read position size bytes buffer sized read =
     part_is position size bytes buffer (omega (arith, sized, read.0)) (read.1 ∙ ap (λ n. take n (drop position bytes)) sized)

@@ -91,7 +91,7 @@ fn mended(key: [u8; 8]) -> [u8; 8]
     key
 }
 
-/// Whether eight bytes are a weak or semi-weak key of DES (NIST SP 800-67). Other numbers of bytes are none.
+/// Whether the bytes are a weak or semi-weak key of DES (NIST SP 800-67). Bytes of another length than eight are neither.
 #[tactic(auto, unfolding(crate::specs::Seeds::is_weak, crate::specs::Seeds::weak_keys))]
 pub fn is_weak(key: &[u8]) -> bool
     ensures { result ≡ is_weak key.now }

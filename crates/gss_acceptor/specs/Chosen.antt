@@ -34,7 +34,7 @@ pub record IsChosen (choice : Choice) (established : EstablishedRecord) : Type 0
   pub from_first : first ≤ established.context.taking
   pub key : IsKeyOf established.context.acceptor_subkey choice established.context.key
 
--- the context that waits for the initiator's MIC is as the client chose
+-- a context waits for the initiator's MIC, and it is as the client chose
 abbrev pub IsChosenAt : Choice → Stage → Type 0
 IsChosenAt choice (Token terms) = ⊥
 IsChosenAt choice (Mic unverified) = IsChosen choice unverified.established

@@ -76,7 +76,7 @@ awaiting established supported list own =
     waiting (neg_token_resp AcceptIncomplete supported established.reply (Some own))
     (stage.Mic (record { established = record established { reply = None }; list = list }))
 
--- the acceptor sends its MIC and demands the initiator's, or it can't make its MIC
+-- the acceptor sends its MIC and demands the initiator's; or it can't make its MIC, or memory runs out
 abbrev pub Demands : EstablishedRecord → Option Mechanism → Bytes → Result Accepted AcceptRefusal → Type 0
 Demands established supported list result =
     ((own : Bytes) × WritesMic (sender_of established.context) established.context.sending list own
@@ -92,7 +92,7 @@ IsConcludedWithout established supported terms result =
     (MatchBool (is_some established.reply) (Demands established supported terms.list result) (result ≡ Err NoMic))
     (IsGiven (completed established supported None) result)
 
--- the negotiation goes on or ends by the initiator's MIC, which came with its token or didn't
+-- the negotiation ends or goes on, by whether the initiator's MIC came with its token and is right
 abbrev pub IsConcluded : Exchange → EstablishedRecord → Result Accepted AcceptRefusal → Type 0
 IsConcluded exchange established result =
     MatchOption exchange.mic (IsConcludedWithout established exchange.supported exchange.terms result)

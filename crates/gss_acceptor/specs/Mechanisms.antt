@@ -28,7 +28,7 @@ kerberos_in identifier =
 abbrev pub first_kerberos : List ObjectIdentifierAsn1 → Option ObjectIdentifierAsn1
 first_kerberos identifiers = find (λ identifier. is_some (kerberos_in identifier)) identifiers
 
--- Kerberos, by the first of the identifiers that is its, if one is
+-- Kerberos by the first identifier in the list that denotes it; none if no identifier does
 abbrev pub kerberos_among : List ObjectIdentifierAsn1 → Option Mechanism
 kerberos_among identifiers = option_and_then kerberos_in (first_kerberos identifiers)
 

@@ -21,7 +21,7 @@ abbrev pub BeginsProxyMessage : {T : Type 0} → (T → List ℕ → Type 0) →
 BeginsProxyMessage reads m bytes =
     (message body : List ℕ) × IsProxied bytes message × Leads header_reading.ghosts.reads m.header message body × reads m.krb_msg body
 
--- what two messages of one Kerberos token have in common: all, where two values that are read alike are the same
+-- what two Kerberos messages of one token have in common: mechanism, token id, and what is alike in the messages that they carry
 abbrev pub seen_message : {T : Type 0} → Seen T → Seen (KrbMessage T)
 seen_message seen = seen_part (λ m. (m.krb5_oid, (m.krb5_token_id, m.krb_msg))) (seen_pair as_is (seen_pair as_is seen))
 

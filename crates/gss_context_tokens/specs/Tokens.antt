@@ -28,7 +28,7 @@ IsOfMechanism bytes mechanism inner = (content : List ℕ) × BeginsToken conten
 abbrev pub IsTold : List ℕ → List ℕ → List ℕ → Type 0
 IsTold inner id message = (inner ≡ id ++ message) × (length id ≡ 2)
 
--- the mechanism IAKERB (draft-ietf-kitten-iakerb-03, section 2)
+-- the mechanism IAKERB (draft-ietf-kitten-iakerb-03, section 3)
 abbrev pub iakerb : ObjectIdentifierAsn1
 iakerb = record { 0 = iakerb5 }
 

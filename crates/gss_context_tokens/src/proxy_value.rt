@@ -17,7 +17,7 @@ use std::alloc::{AllocError, Global};
 // The mechanism IAKERB as content octets.
 const MECHANISM: [u8; 6] = [0x2B, 6, 1, 5, 2, 5];
 
-/// The mechanism IAKERB (draft-ietf-kitten-iakerb-03, section 2), which alone these messages have.
+/// The mechanism IAKERB (draft-ietf-kitten-iakerb-03, section 3), which alone these messages have.
 #[derive(Drop)]
 pub struct IAKerbMechanism;
 

@@ -47,7 +47,7 @@ abbrev pub waits : Pending → TokenForm → Bool
 waits pending Bare = pending.is_mutual
 waits pending Negotiated = true
 
--- how the context stands after the first token: it waits for an answer, or it is established
+-- how the context stands after the first token: it waits for an answer, or is established, or is refused
 abbrev pub progress_of : Pending → Result Progress InitiateRefusal
 progress_of pending =
     if waits pending pending.form then Ok (ContinueNeeded pending)

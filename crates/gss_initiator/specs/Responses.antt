@@ -82,10 +82,10 @@ abbrev pub settled : Pending → Option Bytes → Table (Result ContextRecord In
 settled pending None = settled_without pending
 settled pending (Some token) = settled_with pending token
 
--- the context of an answer, and what the answer says of MICs
+-- the context of an answer, whether a further token of the initiator is due, and the acceptor's MIC
 abbrev pub settled_by : Pending → Answer → Table (Result Heard InitiateRefusal)
 settled_by pending answer = and_then (settled pending answer.token) (λ context. done (Ok (record { context = context; is_due = answer.is_due; mic = answer.mic })))
 
--- the context of the acceptor's answer of SPNEGO, and what the answer says of MICs
+-- the context of the acceptor's answer of SPNEGO, whether a further token is due, and the acceptor's MIC
 abbrev pub negotiated : Pending → Bytes → Table (Result Heard InitiateRefusal)
 negotiated pending token = and_then (responded token) (settled_by pending)

@@ -57,7 +57,7 @@ IsEnded (progress.Established context) established = AreSides context establishe
 IsEnded (progress.ContinueNeeded pending) established =
     (reply : Bytes) × (established.reply ≡ Some reply) × ((result : Result TakenRecord InitiateRefusal) → Takes pending reply result → IsOtherEnd established result)
 
--- what the acceptor makes of the first token that was sent: it is accepted, and the initiator has the other end
+-- the first token that was sent is accepted, and the initiator has the other end or gets it by the reply; or memory runs out
 abbrev pub IsOneContext : GssLogin → InitiatedRecord → Type 0
 IsOneContext login initiated =
     (result : Result Accepted AcceptRefusal) (after : AcceptorRecord)

@@ -21,17 +21,17 @@ mic_filler = MIC_FILLER
 abbrev pub Verdict : Type 0
 Verdict = Result (Unit {0}) GssApiMessageError
 
--- an id that is there isn't the token's
+-- the verdict on a token's id: a fault if it is there and isn't the one of this kind (RFC 4121, section 4.2.6)
 abbrev pub id_judged : TokenKind → List ℕ → Verdict
 id_judged kind whole =
     if nat_le 2 (length whole) && not (bytes_eq (take 2 whole) (id_of kind)) then Err (InvalidId (id_of kind) (take 2 whole)) else Ok tt
 
--- a MIC token's filler that is there isn't all FF (RFC 4121, section 4.2.6.1)
+-- the verdict on a MIC token's filler: a fault if it is there and isn't all FF (RFC 4121, section 4.2.6.1)
 abbrev pub mic_filler_judged : List ℕ → Verdict
 mic_filler_judged whole =
     if nat_le 8 (length whole) && not (bytes_eq (take 5 (drop 3 whole)) mic_filler) then Err (InvalidMicFiller (take 5 (drop 3 whole))) else Ok tt
 
--- a wrap token's filler that is there isn't FF (RFC 4121, section 4.2.6.2)
+-- the verdict on a wrap token's filler: a fault if it is there and isn't FF (RFC 4121, section 4.2.6.2)
 abbrev pub wrap_filler_judged : List ℕ → Verdict
 wrap_filler_judged whole =
     if nat_le 4 (length whole) && not (nat_eq (slice_index whole 3) WRAP_FILLER) then Err (InvalidWrapFiller (slice_index whole 3)) else Ok tt

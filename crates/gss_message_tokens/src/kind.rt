@@ -6,7 +6,7 @@ use crate::error::GssApiMessageError;
 use krb_constants::gss_api::{MIC_FILLER, MIC_TOKEN_ID, WRAP_FILLER, WRAP_TOKEN_ID};
 use std::io::ErrorKind;
 
-/// The length of a token's header: the bytes before its checksum (RFC 4121, sections 4.2.6.1 and 4.2.6.2).
+/// The length of a token's header: the bytes before a MIC token's checksum or a wrap token's data (RFC 4121, section 4.2.6).
 pub const HEADER_LEN: usize = 16;
 
 /// The two tokens that carry a sequence number (RFC 4121, sections 4.2.6.1 and 4.2.6.2).

@@ -95,7 +95,8 @@ fn enclosed(text: &str, label: Label) -> Result<Between<'_>, FileFault>
     }
 }
 
-/// What precedes the label's END boundary in `rest`. Its BEGIN boundary is `place` octets into the text, and `rest` follows it.
+/// What precedes the label's END boundary in `rest`; a fault at `place` if there is none. The BEGIN boundary is `place` octets into
+/// the text, and `rest` follows it.
 fn ended(place: usize, rest: &str, label: Label) -> Result<Between<'_>, FileFault>
     ensures { MatchResult result (λ found. (found.place ≡ place) × IsEnded label rest.now found.body.now) (λ fault. (fault ≡ FileFault.NotEnded place) × IsAbsent (end_of label) rest.now) }
 {

@@ -31,7 +31,7 @@ account_behind suite octets =
     if (le32_at 2 octets == 0) || nat_lt (length octets) (ACCOUNT_HEAD + cipher_key_size suite) then None
     else with_salt suite (le32_at 2 octets) (take (cipher_key_size suite) (drop ACCOUNT_HEAD octets)) (salt_in (slice_index octets 6) (drop (ACCOUNT_HEAD + cipher_key_size suite) octets))
 
--- The account whose record the octets are, of the suite that octet 1 names, if it names one.
+-- The account of this suite whose record the octets are, if there is a suite and they are one.
 abbrev pub of_suite : List ℕ → Option CipherSuite → Option AccountRecord
 of_suite octets None = None
 of_suite octets (Some suite) = account_behind suite octets

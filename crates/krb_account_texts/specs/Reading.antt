@@ -57,7 +57,7 @@ abbrev pub judged_kvno : Option ℕ → Result ℕ LineFault
 judged_kvno None = Err fault.Kvno
 judged_kvno (Some kvno) = if kvno == 0 then Err fault.Kvno else Ok kvno
 
--- The kvno that decimal digits write.
+-- The kvno that decimal digits write, if it is a number from 1 to below 2^32.
 abbrev pub kvno_in : List ℕ → Result ℕ LineFault
 kvno_in digits = judged_kvno (number_in digits)
 
@@ -92,11 +92,11 @@ account_in name suite kvno salt key = do
   own_key ← key_in own_suite key
   Ok (account own_name (record { suite = own_suite; key = own_key; kvno = own_kvno; salt = own_salt }))
 
--- A realm's name, of which no character is a control character.
+-- No character is below 32 (space).
 abbrev pub is_printed : Bytes → Bool
 is_printed = list_all (λ character. nat_le 32 character)
 
--- The realm's name that a text is, if it has no control character.
+-- The text as a realm's name, if it is one and has no character below 32 (space).
 unfoldable pub realm_name_in : List ℕ → Result Bytes LineFault
 realm_name_in text = if is_realm_name text && is_printed text then Ok text else Err fault.RealmName
 
@@ -140,7 +140,7 @@ line_of _ = Err fault.Fields
 unfoldable pub line_in : List ℕ → Result WrittenLine LineFault
 line_in text = if slice_index text 0 == 35 then Ok (comment text) else line_of (fields text)
 
--- The result of reading the line of this number, whose fault names the number.
+-- The result of reading the line of this number. Its fault names the number, unless memory ran out.
 abbrev pub at_line : {A : Type 0} → ℕ → Result A LineFault → Result A TextFault
 at_line number (Ok x) = Ok x
 at_line number (Err fault.Memory) = Err text_fault.Memory

@@ -21,7 +21,7 @@ AreBlocks = All (λ block. IsBlock block.items)
 abbrev pub block_cmp : Bytes → Vec ℕ Global → Ordering
 block_cmp block key = slice_cmp nat_cmp block key.items
 
--- the order of the blocks of two entries
+-- the order of two blocks, as entries hold them
 abbrev pub cmp_blocks : Vec ℕ Global → Vec ℕ Global → Ordering
 cmp_blocks block = block_cmp block.items
 

@@ -74,7 +74,7 @@ impl Accounts {
         entries.get(block.as_slice())
     }
 
-    // The account of a name of any length. It is a function of its own, so that few calls clear the room of its block.
+    // The account of a name of any length. It stands apart, so that only calls with a long name clear `BLOCK_ROOM` octets.
     #[inline(never)]
     fn get_long(&self, name: &[GeneralStringAsn1]) -> Option<&Account>
         ensures { option_copied result ≡ finite.get self.now name.now }
@@ -142,7 +142,7 @@ impl Accounts {
         put_new(entries, alloc, block.as_slice(), account)
     }
 
-    // Adds the account of a name of any length. It is a function of its own, so that few calls clear the room of its block.
+    // Does what `insert_components` does, with room for a block of up to `BLOCK_ROOM`. It stands apart: few calls clear that room.
     #[inline(never)]
     fn insert_long(
         &mut self,
@@ -226,8 +226,8 @@ fn pack_name<const N: usize>(block: &mut ArrayVec<u8, N>, name: &[GeneralStringA
     true
 }
 
-/// Makes an empty block that of the name with these components. The result is false where the block has no room for it, or where a
-/// character isn't below 128.
+/// Writes the block of the name with these components into an empty one. The result is false where there is no room for it, or
+/// where a character isn't below 128.
 fn pack_parts<const N: usize>(block: &mut ArrayVec<u8, N>, name: &[Vec<u8>]) -> bool
     requires { block.old.items ≡ [] }
     ensures fits { result ≡ fit_in N (parts name.now) }

@@ -13,7 +13,7 @@ use krb_profile::{KERBEROS, pbkdf2_hmac};
 use sha2::{Sha256, Sha384};
 use std::alloc::{AllocError, Global};
 
-/// The default iteration count of PBKDF2 (RFC 8009, section 4).
+/// The iteration count of string-to-key where no s2kparams are given (RFC 8009, section 4).
 pub const AES_SHA2_ITERATIONS: u32 = 32_768;
 
 /// The key that is derived from another one and a label: as long as the key. A key of another length is refused

@@ -22,8 +22,8 @@ pub record FitsSuite {T : Type 0} (tree : T → Tree) (etype : ℤ) (key confoun
   pub whole : IsWhole (tree value)
   pub encoded : IsBytes (der (tree value))
 
--- the ticket's part fits the service's key, and the authenticator fits the part's key; the fields outside
--- have an encoding
+-- etype, key and confounder of the ticket's part fit one suite, and so do those of the authenticator, under the session key in that
+-- part; the request has an encoding whatever the two ciphertexts are
 pub record IsFitting (key : Bytes) (choice : Choice) : Type 0 where
   pub part : FitsSuite {T = EncTicketPartInner} enc_ticket_part_tree choice.outer.part_etype key choice.part_confounder choice.part
   pub authenticator : FitsSuite {T = AuthenticatorInner} authenticator_tree choice.outer.etype choice.part.key.0.key_value.0 choice.confounder choice.authenticator

@@ -78,7 +78,7 @@ IsGivenMoment (Ok None) None = Unit {0}
 IsGivenMoment (Ok (Some text)) (Some moment) = IsMomentOfText text moment
 IsGivenMoment value moment = ⊥
 
--- The stop of an option whose value names no moment, or that is given twice. Another one stops only if memory runs out.
+-- Why an option's moment isn't given: its value names none, the option is given twice, or memory ran out.
 abbrev pub IsNoMoment : Text → Result (Option Text) Text → Stop → Type 0
 IsNoMoment option (Ok (Some text)) stop =
     (stop ≡ Memory) ⊎ (IsUsage (Some (option ++ codes ": expected a time (UTC), as 20261128040000Z")) stop × ((time : GeneralizedTime) → time_text time ≢ text))

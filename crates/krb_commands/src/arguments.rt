@@ -134,7 +134,8 @@ impl<'a> Given<'a> {
         }
     }
 
-    /// The moment that an option's value names (UTC, as 20261128040000Z), if it is given. A value that names none is refused.
+    /// The moment that an option's value names (UTC, as 20261128040000Z), if it is given. A value that names none is refused, and so is
+    /// an option that is given twice.
     pub fn moment(&self, alloc: Global, option: &str) -> Result<Option<Moment>, Stop>
         ensures ok { IfOk result (IsGivenMoment (only_value option.now (values_of (parts self.now).options option.now))) }
         ensures err { IfErr result (IsNoMoment option.now (only_value option.now (values_of (parts self.now).options option.now))) }

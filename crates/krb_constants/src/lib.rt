@@ -1,4 +1,4 @@
-//! Numbers of the standards: each stands here once. `krb_crypto` gives its suites their numbers by these names.
+//! Numbers of the standards, each under one name. The numbers of `krb_crypto`'s suites are these, too.
 //!
 //! `picky_krb` hands them on under the paths of the ported crate.
 //!

@@ -24,7 +24,7 @@ asked Version = ToVersion
 abbrev pub is_path : Text → Bool
 is_path word = not (starts_with nat_eq word (codes "--"))
 
--- The command to serve this database with this file of random octets, if both words are paths.
+-- The command to serve this database with this file of random octets, logged or not, if both are paths.
 abbrev pub served : Text → Text → Bool → Option Asked
 served database words is_logged = if is_path database && is_path words then Some (ToServe database words is_logged) else None
 

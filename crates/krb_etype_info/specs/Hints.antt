@@ -103,8 +103,8 @@ info_in reply = first_of PA_ETYPE_INFO2 (option_map_or (λ tagged. tagged.0) rep
 -- What an AS reply says of the key of its enc-part, without its being opened.
 abbrev pub hint_of_reply : List CipherSuite → KdcRep → Table Hinted
 hint_of_reply suites reply =
-    -- The reply's pvno is 5, and its msg-type is KRB_AS_REP (RFC 4120, section 5.4.2). Test: `reply, other pvno`, `reply, other msg-type` of
-    -- `hints.txt`.
+    -- The reply's pvno is 5, and its msg-type is KRB_AS_REP (RFC 4120, section 5.4.2). Test: `reply, other pvno`,
+    -- `reply, other msg-type` of `hints.txt`.
     refuse (not (is_of_type AS_REP_MSG_TYPE reply.pvno.0 reply.msg_type.0)) Unreadable
     -- The enc-part's etype is that of a suite which the client takes (RFC 4120, section 3.1.5). Test: `reply of another suite` of `hints.txt`.
     (need (suite_among suites reply.enc_part.0.etype.0) NoSuite (λ suite.

@@ -19,7 +19,7 @@ pub record DeviceBytes : Type 0 where
   pub words : Option (List ℕ)
   pub written : Option (List ℕ)
 
--- the bytes of the devices: of the stream, of the random bytes and of what was written
+-- the stream, the random bytes and the written bytes of the devices, each where it is known
 abbrev pub device_bytes : Option (List ℕ) → Option (List ℕ) → Option (List ℕ) → DeviceBytes
 device_bytes stream words written = record { stream = stream; words = words; written = written }
 

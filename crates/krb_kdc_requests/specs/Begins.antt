@@ -8,6 +8,7 @@ use Rattle.krb_constants.specs.declared.types.TheConstants.{APPLICATION, AS_REQ_
 abbrev pub is_request_octet : ℕ → Bool
 is_request_octet octet = octet == (APPLICATION + AS_REQ_MSG_TYPE) || octet == (APPLICATION + TGS_REQ_MSG_TYPE)
 
--- the bytes begin with such an octet. No others are read, so they are answered however little memory there is
+-- The bytes begin with the identifier octet of an AS request or of a TGS request. Other bytes are refused unread, however little
+-- memory there is.
 abbrev pub BeginsRequest : Bytes → Type 0
 BeginsRequest bytes = IsTrue (option_map_or is_request_octet (slice_get bytes 0) false)

@@ -26,7 +26,7 @@ entry_with realm components kvno key = record { realm = realm; components = comp
 abbrev pub is_record_of : Bytes → List Bytes → Entry → Bool
 is_record_of realm components key_record = is_same_realm key_record.realm realm && is_same_name key_record.components components
 
--- the record is of this realm and this name, and its kvno counts: kvnos begin with 1
+-- the record is of this realm and this name, and its kvno is at least 1
 abbrev pub is_counted : Bytes → List Bytes → Entry → Bool
 is_counted realm components key_record = is_record_of realm components key_record && nat_le 1 key_record.kvno
 

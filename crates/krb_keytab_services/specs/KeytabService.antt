@@ -40,7 +40,7 @@ abbrev pub AreOwnEntries : Bytes → List Bytes → List EntryRecord → Type 0
 AreOwnEntries realm components entries =
     IsRealmName realm × AreComponents components × (1 ≤ length entries) × All (IsOwnEntry realm components) entries
 
--- the entries of a service of a keytab are its own, and its clock skew is whole seconds
+-- the service has a realm, a name and one or more entries, all its own, and its clock skew is whole seconds
 abbrev pub IsKeytabService : KeytabServiceRecord → Type 0
 IsKeytabService service = IsWholeSeconds service.seen.skew × AreOwnEntries service.realm service.components service.entries
 

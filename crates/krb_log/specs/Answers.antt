@@ -19,7 +19,7 @@ pub record IsGranted (reply : KdcRep) (granted : Granted) : Type 0 where
   pub ticket : granted.ticket_etype ≡ reply.ticket.0.0.enc_part.0.etype.0
   pub part : granted.reply_etype ≡ reply.enc_part.0.etype.0
 
--- A reply of this predicate was granted, or no reply satisfies it.
+-- What was granted is that of a reply that satisfies the predicate; or nothing was, and no reply satisfies it.
 abbrev pub IsGrantedIn : (KdcRep → Type 0) → Option Granted → Type 0
 IsGrantedIn Is None = (reply : KdcRep) → Is reply → ⊥
 IsGrantedIn Is (Some granted) = (reply : KdcRep) × Is reply × IsGranted reply granted

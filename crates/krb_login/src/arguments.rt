@@ -12,7 +12,7 @@ use std::alloc::Global;
 /// The options.
 const OPTIONS: [&str; 10] = ["-k", "-p", "-C", "-K", "-A", "-c", "-s", "-l", "-r", "-t"];
 
-/// The lifetime that is requested of tickets, in seconds, if none is given: ten hours.
+/// The lifetime that is requested for tickets, in seconds, if none is given: ten hours.
 const USUAL_LIFETIME: u64 = 36_000;
 
 /// The random octets, if no file is given.
@@ -80,7 +80,7 @@ pub(crate) struct Settings<'a> {
     pub(crate) means: Means<'a>,
     /// The path of the cache.
     pub(crate) cache: &'a str,
-    /// The lifetime that is requested of tickets, in seconds.
+    /// The lifetime that is requested for tickets, in seconds.
     pub(crate) lifetime: u64,
     /// The path of the random octets.
     pub(crate) words: &'a str,

@@ -82,7 +82,7 @@ module _ (client : ClientRecord) (means : MeansRecord) (realm : RealmRecord) (ro
       → (credential : CredentialRecord) × (taken ≡ Ok credential)
       × IsHeld met.granting.account login.realm_words_as (first_grant client realm login span) credential
 
-  -- the client takes the ticket for the service that is granted
+  -- the client takes the granted ticket for the service
   unfoldable pub IsFurtherTaken : Type 0
   IsFurtherTaken = (first span : Span) (granting : CredentialRecord) (granted : Bytes) (taken : Taken)
       → IsHeld met.granting.account login.realm_words_as (first_grant client realm login first) granting
@@ -91,7 +91,7 @@ module _ (client : ClientRecord) (means : MeansRecord) (realm : RealmRecord) (ro
       → (credential : CredentialRecord) × (taken ≡ Ok credential)
       × IsHeld met.honest.service.account login.realm_words_tgs (further_grant client realm login first span) credential
 
-  -- the service admits the client by that one: the admission has the session key and the client, and the client takes the reply
+  -- the service admits the client by that ticket: the admission has the session key and the client, and the client takes the reply
   unfoldable pub IsClientAdmitted : Type 0
   IsClientAdmitted = (first span : Span) (credential : CredentialRecord) (request : Bytes) (outcome : Outcome)
       → IsFirstSpan realm login first → IsFurtherSpan realm login first span

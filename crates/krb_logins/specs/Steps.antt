@@ -33,7 +33,7 @@ IsAsAsked client means service till moment words (Ok sent) =
 IsAsAsked client means service till moment words (Err refusal) =
     IsUnasked client means service till moment words refusal × (are_components service ≡ false → refusal ≡ ask_refusal.BadName)
 
--- a client refuses to ask for a service by a ticket: the service's name is none, or memory ran out
+-- why a client refuses to ask for a service by a ticket: the service's name is not a valid name, or memory ran out
 abbrev pub IsUnnamed : List Bytes → AskRefusal → Type 0
 IsUnnamed service refusal = (refusal ≡ ask_refusal.Memory) ⊎ ((refusal ≡ ask_refusal.BadName) × (are_components service ≡ false))
 

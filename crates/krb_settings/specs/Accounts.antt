@@ -54,12 +54,12 @@ account_of document =
     only account_fields document >>= (λ _. name_at document >>= (λ name. suite_at document >>= (λ suite.
     secret_at document >>= (λ secret. Ok (record { name = name; suite = suite; secret = secret })))))
 
--- the fault of a file whose own table has this fault. Accounts are numbered from 1
+-- the fault of a file whose own table has this fault
 abbrev pub fault_in_file : TableFault → SettingsFault
 fault_in_file table_fault.Memory = fault.Memory
 fault_in_file e = fault.File e
 
--- the fault of a file whose account with this number has this fault
+-- the fault of a file whose account with this number has this fault. Accounts are numbered from 1
 abbrev pub fault_in_account : ℕ → TableFault → SettingsFault
 fault_in_account number table_fault.Memory = fault.Memory
 fault_in_account number e = fault.Account number e

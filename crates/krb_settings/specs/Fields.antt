@@ -37,7 +37,7 @@ keys_in (member key value rest) = key ∷ keys_in rest
 abbrev pub has_only : List Field → Members → Bool
 has_only fields document = list_all (is_among fields) (keys_in document)
 
--- each key of a table is the name of one of the fields, or there is an unknown key
+-- nothing where a table has only keys that name these fields, else the fault of an unknown key
 abbrev pub only : List Field → Members → Result (Unit {0}) TableFault
 -- Each key of a table is the name of a field. Test: `unknown key "skwe"`, `unknown key "pasword"`.
 only fields document = if has_only fields document then Ok tt else Err UnknownKey
@@ -95,16 +95,16 @@ suite_named name = ok_or (find (λ suite. pointwise nat_eq name (suite_name suit
 abbrev pub suite_at : Members → Result CipherSuite TableFault
 suite_at document = text_at Suite document >>= suite_named
 
--- the bytes that hexadecimal digits write, two a byte
+-- the bytes of a decoding, or the fault that the digits are wrong
 abbrev pub digits_told : {E : Type 0} → Result (List ℕ) E → Result (List ℕ) TableFault
 digits_told (Ok bytes) = Ok bytes
 -- A key is pairs of hexadecimal digits. Test: `character 10 of key is no hexadecimal digit`, `key has 63 hexadecimal digits`.
 digits_told (Err _) = Err BadDigits
 
--- the bytes that hexadecimal digits write, or that the digits are wrong
+-- the bytes that hexadecimal digits write, two a byte, or the fault that the digits are wrong
 abbrev pub bytes_of : List ℕ → Result (List ℕ) TableFault
 bytes_of digits = digits_told (decode_of digits)
 
--- the bytes in the field `key` of a table
+-- the bytes that the hexadecimal digits in the field `key` of a table write
 abbrev pub key_at : Members → Result (List ℕ) TableFault
 key_at document = text_at Key document >>= bytes_of

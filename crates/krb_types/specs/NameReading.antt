@@ -69,13 +69,13 @@ realm_in text = sole_part (components_in text)
 abbrev pub before : ℕ → Octets × Option Octets → Octets × Option Octets
 before octet rest = (octet ∷ rest.0, rest.1)
 
--- what precedes the first `@` that isn't quoted, and what follows it
+-- what precedes the first unquoted `@`, and what follows it, where a backslash stands before the text or doesn't
 abbrev pub split_from : Bool → Octets → Octets × Option Octets
 split_from quoted [] = ([], None)
 split_from true (octet ∷ text) = before octet (split_from false text)
 split_from false (octet ∷ text) = if octet == 64 then ([], Some text) else before octet (split_from (octet == 92) text)
 
--- what precedes the first `@` of a text that isn't quoted, and what follows it
+-- what precedes the first unquoted `@` of a text, and what follows it
 unfoldable pub split_realm : Octets → Octets × Option Octets
 split_realm = split_from false
 

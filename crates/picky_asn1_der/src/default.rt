@@ -28,7 +28,7 @@ pub trait HasDefault: Serialize + Sized + Drop {
     fn default_value(alloc: Global) -> Result<Self, AllocError>
         ensures { IfOk result (λ value. IsTrue (is_default_value value)) };
 
-    // If two values have one spelling, both are the default or neither is.
+    // If the same is seen of two values, both are the default or neither is.
     ghost kept: { (v w : Self) → Alike Self.seen v w → is_default_value v ≡ is_default_value w };
 }
 

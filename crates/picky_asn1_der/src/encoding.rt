@@ -14,8 +14,8 @@ const MOST_HEADER: usize = 6;
 
 /// Encodes and consumes `value`. Fails only if memory runs out.
 ///
-/// It consumes the value, as [`tagged_encoding`] does. A check takes up to a minute for each function that borrows a
-/// big message of its own for the call, and none for a function that passes it on.
+/// It consumes the value because a check takes up to a minute for each function that borrows a big message of its own for a call,
+/// and none for one that passes it on. [`tagged_encoding`] consumes it too.
 pub fn encoding_of<T: Serialize + Drop>(alloc: Global, value: T) -> Result<Vec<u8>, AllocError>
     ensures { IfOk result (λ bytes. bytes.items ≡ der (T.tree value)) }
 {

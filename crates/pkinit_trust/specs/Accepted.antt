@@ -21,7 +21,7 @@ use Rattle.pkinit_trust.specs.Principals.{named}
 use Rattle.pkinit_trust.specs.declared.refusal.TrustRefusal.{TrustRefusal}
 use Rattle.pkinit_trust.specs.declared.refusal.TrustRefusal.TheVariants.{InvalidCertificate, CantVerifyCertificate}
 
--- The seconds of a time of a validity: a UTCTime or a GeneralizedTime (RFC 5280, section 4.1.2.5).
+-- A validity's time, a UTCTime or a GeneralizedTime, in seconds since year 0 (RFC 5280, section 4.1.2.5).
 abbrev pub time_seconds : Time → Seconds
 time_seconds (Utc time) = seconds_of time.0.time
 time_seconds (Generalized time) = seconds_of time.0
@@ -31,7 +31,7 @@ abbrev pub is_valid_at : Micros → Validity → Bool
 is_valid_at moment validity =
     nat_le (time_seconds validity.not_before) (moment / 1000000) && nat_le (moment / 1000000) (time_seconds validity.not_after)
 
--- The value is of a kind that is not recognised.
+-- The extension's value is of a kind that is not recognised.
 abbrev pub is_generic : ExtensionValue → Bool
 is_generic (kind.Generic octets) = true
 is_generic other = false

@@ -16,7 +16,7 @@ pub enum TrustRefusal {
     /// The signer's certificate is not valid at the moment.
     #[error("the certificate is not valid at this moment")]
     InvalidCertificate,
-    /// The anchor did not issue the certificate, or the certificate has a critical extension that is not recognised.
+    /// The certificate is unreadable, the anchor did not issue it, or it has a critical extension that is not recognised.
     #[error("the certificate cannot be verified")]
     CantVerifyCertificate,
     /// The certificate names another principal, or none.

@@ -46,7 +46,7 @@ fn is_read<T: Serialize + Drop, E: Drop>(
     is_written(alloc, &value, recorded)
 }
 
-/// Whether what was read, a message or an error in its place, is written or displayed as expected, or its refusal is expected.
+/// Whether a message that was read, or the error in its place, is written or printed as expected, or a refusal is expected.
 fn is_either<T: Serialize + Drop, E: Printed + Drop>(
     alloc: Global,
     read: Result<Result<T, E>, Asn1DerError>,

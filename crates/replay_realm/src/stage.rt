@@ -160,7 +160,7 @@ fn tell_step(
     Ok(())
 }
 
-/// Takes a step that makes or takes a message, and writes its outcome.
+/// Performs a step that makes or takes a message, and writes its outcome.
 fn tell_message(
     stage: &mut Stage,
     alloc: Global,

@@ -46,7 +46,7 @@ fn components(rt: HostRuntime) {
     assert!(rt; is_read(alloc, "\u{fc}", &[&[0xC3, 0xBC]]));
 }
 
-// A backslash quotes a separator, a backslash, a control character's letter, and another octet, which represents itself.
+// After a backslash, a separator or a backslash is itself, n, t, b and 0 are control characters, and another octet is itself.
 #[test]
 fn quoted(rt: HostRuntime) {
     let alloc = rt.alloc();

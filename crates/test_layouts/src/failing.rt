@@ -101,10 +101,10 @@ fn row_fault(bytes: &[u8], count: usize) -> Option<ErrorKind> {
     }
 }
 
-// A PAC of version 1.
+// The first 12 octets of a PAC of version 1; the only version is 0.
 const VERSION_1: &[u8] = b"\x01\x00\x00\x00\x01\x00\x00\x00\x0a\x00\x00\x00";
 
-// A PAC with a buffer of type 3, which is no type.
+// The first 12 octets of a PAC whose buffer has type 3, which MS-PAC does not define.
 const TYPE_3: &[u8] = b"\x01\x00\x00\x00\x00\x00\x00\x00\x03\x00\x00\x00";
 
 // What is wrong in the bytes that came is answered before the device's fault.

@@ -9,7 +9,7 @@ use Rattle.x509_names.specs.Parameters.{or_else}
 use Rattle.x509_names.specs.declared.general_name.GeneralName.{GeneralName}
 use Rattle.x509_parts.specs.declared.basic_constraints.BasicConstraints.{BasicConstraints}
 
--- The first of two extensions of one kind counts (RFC 5280, section 4.2).
+-- Where an extension is there twice, against RFC 5280, section 4.2, the first counts.
 -- No test: the contract alone covers it.
 abbrev pub first_among : {T : Type 0} → (ExtensionValue → Option T) → List Extension → Option T
 first_among held_by [] = None

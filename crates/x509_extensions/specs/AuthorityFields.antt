@@ -52,7 +52,7 @@ abbrev pub kept : {A : Type 0} → Option A → A → Option A
 kept None field = Some field
 kept (Some behind) field = Some behind
 
--- the gathered fields before the first one: no field is there, none is out of order and none is repeated
+-- what is gathered behind the last field: no field is there, none is out of order and none is repeated
 abbrev pub nothing : Gathered
 nothing = record {
   value = record {

@@ -218,7 +218,7 @@ fn zero_bits(alloc: Global, count: usize) -> Result<BitStringAsn1, AllocError>
     bits_of(alloc, octets.as_slice(), unused as u8)
 }
 
-// These bits with zeros after them: `count` bits in all, which are more.
+// These bits, and zeros after them up to `count` bits. There are fewer than `count` bits before.
 fn widened(alloc: Global, bits: &BitStringAsn1, count: usize) -> Result<BitStringAsn1, AllocError>
     requires more { bit_count bits.now < count }
     requires few { count ≤ 9 }

@@ -30,7 +30,7 @@ arc_name arc =
     else (if arc == 10 then codes "O"
     else (if arc == 11 then codes "OU" else []))))))
 
--- the short name of the type whose content octets are id-at and one arc; empty for other octets (RFC 4514, section 3)
+-- the short name of the type whose content octets are id-at and one arc; empty where RFC 4514, section 3 has none
 abbrev pub id_at_name : List ℕ → List ℕ
 id_at_name [] = []
 id_at_name (first ∷ []) = []

@@ -496,7 +496,7 @@ pub fn krb5(alloc: Global) -> Result<ObjectIdentifier, AllocError>
     identifier(alloc, &[1, 2, 840, 113554, 1, 2, 2])
 }
 
-/// The mechanism IAKERB (draft-ietf-kitten-iakerb, section 2).
+/// The mechanism IAKERB (draft-ietf-kitten-iakerb, section 3).
 pub const IAKERB5: &str = "1.3.6.1.5.2.5";
 
 /// The identifier [`IAKERB5`].

@@ -159,7 +159,8 @@ fn tell_taken(
     outcome
 }
 
-/// Writes what a client takes of a reply. Its key functions know the keys of the anchor and of the holder of the reply's certificate.
+/// Writes what a client takes of a reply. The client's key functions know the keys of the anchor and of the holder of the reply's
+/// certificate.
 fn tell_taken_by<'a>(
     alloc: Global,
     client: &'a PkinitClient,

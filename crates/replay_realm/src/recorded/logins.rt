@@ -100,7 +100,8 @@ fn tell_logins(
     outcome
 }
 
-/// Writes the outcome of the logins. The key functions of each party know the keys of its own anchor and of the other party.
+/// Writes the outcome of the last login, or of the first that fails. The key functions of each party know the keys of its own anchor
+/// and of the other party.
 fn tell_logins_by<'a>(
     alloc: Global,
     client: &'a Keyed<Client>,
