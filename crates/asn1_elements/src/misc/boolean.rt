@@ -23,7 +23,7 @@ impl Boolean {
         to.serialize_bool(value)
     }
 
-    /// The truth whose content this is: `TruncatedData` for no octet, `InvalidData` for any others.
+    /// The BOOLEAN whose content this is: `TruncatedData` for no octet, `InvalidData` for any others.
     pub fn deserialize(content: &[u8]) -> Result<bool, Asn1DerError>
         ensures { MatchResult result
             (λ value. bool_content value ≡ content.now)
