@@ -128,8 +128,8 @@ opened key usage encrypted =
     -- The session key's type and length are a suite's (RFC 3961, section 3). Test: `key length`; `tgs ticket key type`,
     -- `tgs ticket key length` of `kdc_exchanges.txt`.
     need (suite_of key) KRB_AP_ERR_BAD_INTEGRITY (λ suite.
-    -- The authenticator decrypts under the session key, for its key usage (RFC 4120, section 3.2.3). Test: `authenticator wrong key`;
-    -- `tgs authenticator wrong usage` of `kdc_exchanges.txt`.
+    -- The authenticator decrypts under the session key, for key usage 11, or 7 in a TGS request (RFC 4120, sections 3.2.3 and 5.5.1).
+    -- Test: `authenticator wrong key`; `tgs authenticator wrong usage` of `kdc_exchanges.txt`.
     ask (IsAuthenticator suite key.key_value.0 usage encrypted) (sole_authenticator suite key.key_value.0 usage encrypted) (done (Err KRB_AP_ERR_BAD_INTEGRITY)) (λ authenticator.
     done (Ok (suite, authenticator))))
 

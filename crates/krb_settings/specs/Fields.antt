@@ -61,7 +61,7 @@ text_of field _ = Err (WrongType field)
 -- the whole number that a field holds, which isn't negative
 abbrev pub natural_of : Field → Data → Result ℕ TableFault
 natural_of field (integer (pos n)) = Ok n
--- The skew and the lifetime are whole numbers that aren't negative. Test: `skew is a number with a fraction`, `skew is a text`.
+-- The skew and the lifetime are whole numbers that aren't negative. Test: `skew is a text`, `skew is -5`, `lifetime is -1`.
 natural_of field _ = Err (WrongType field)
 
 -- the list that a field holds

@@ -170,7 +170,7 @@ further call part authenticated service_name service body =
     -- `tgs no known suite`, `tgs first known suite` of `five_suites.txt`.
     need (first_known body.etype.0) KDC_ERR_ETYPE_NOSUPP (λ suite.
     -- The reply key is the subkey, for key usage 9, whose type and length are a suite's; without one it is the session key, for key
-    -- usage 8 (RFC 4120, section 3.3.3). Test: `tgs subkey type`, `tgs subkey`, `tgs honest`.
+    -- usage 8 (RFC 4120, sections 3.3.3 and 5.4.2). Test: `tgs subkey type`, `tgs subkey`, `tgs honest`.
     need (reply_key authenticated.suite part.key.0.key_value.0 (subkey_in authenticated.authenticator)) KRB_AP_ERR_BAD_INTEGRITY (λ under.
     -- The ticket has client, authtime and flag pre-authent of the presented ticket; the flag initial isn't set (RFC 4120, section
     -- 3.3.3). Test: `tgs honest`, `tgs ticket flags short`.

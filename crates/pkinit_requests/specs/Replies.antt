@@ -52,7 +52,7 @@ dh_reply_bytes reply = der (reply_impl.ghosts.tree reply)
 -- The PA-PK-AS-REP to a pkAuthenticator with this nonce: the public value of the random bytes, signed by the holder of the certificate.
 abbrev pub pk_as_rep : KeysRecord → Bytes → ℤ → Random → Table (Result Bytes Code)
 pk_as_rep keys certificate nonce words =
-    -- The KDC has a public value of its key agreement (RFC 4556, section 3.2.3.1).
+    -- The KDC's key agreement has a public value, which is the subjectPublicKey of KDCDHKeyInfo (RFC 4556, section 3.2.3.1).
     -- Test: `public_value none`, `public_value none, client e`.
     need (keys.public_value (agreement_bytes words)) KRB_ERR_GENERIC (λ element.
     -- The KDC's public value is a SEQUENCE of any element and a BIT STRING (RFC 5280, section 4.1.2.7).
