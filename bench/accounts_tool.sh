@@ -9,7 +9,7 @@ tool=${KRB_ACCOUNTS:-$top/crates/krb_account_tool/out/krb_account_tool}
 [ -x "$tool" ] || { echo "accounts_tool: $tool is missing: run ./krb_accounts --version first" >&2; exit 2; }
 command -v strace >/dev/null || { echo "accounts_tool: strace is missing" >&2; exit 2; }
 work=$(mktemp -d)
-trap 'umount "$work/disk" 2>/dev/null; rm -rf "$work"' EXIT
+trap 'cd /; umount "$work/disk" 2>/dev/null || true; rm -rf "$work"' EXIT
 key=000102030405060708090a0b0c0d0e0f101112131415161718191a1b1c1d1e1f
 mkdir "$work/start"
 cd "$work/start"
