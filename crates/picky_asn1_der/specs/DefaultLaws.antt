@@ -13,7 +13,7 @@ pub told-one : {A : Type 0} (is_default : A → Bool) → ((v w : A) → is_defa
     → (v w : A) → told_value is_default v ≡ told_value is_default w → v ≡ w
 told-one is_default one v w e = told_cases (is_default v) (is_default w) v w (one v w) e
 
--- of values that show the same, the same is written
+-- Values that are alike are written alike.
 told_cases_as : {A : Type 0} (seen : Seen A) (b c : Bool) (v w : A) → (b ≡ true → c ≡ true → v ≡ w) → Alike (seen_option seen) (unless b v) (unless c w) → Alike seen v w
 told_cases_as as_is b c v w one e = told_cases b c v w one e
 told_cases_as (by V f) true true v w one e = ap f (one refl refl)

@@ -64,34 +64,42 @@ nothing = record {
   repeats = 0;
 }
 
--- a field in front of others: its tag may be there again, or one that is less
+-- The value with a field put in, unless one of its tag is there.
+abbrev pub with_field : AuthorityField → AuthorityKeyIdentifier → AuthorityKeyIdentifier
+with_field (KeyIdentifier key) v = record {
+  key_identifier = record { 0 = kept v.key_identifier.0 key };
+  authority_cert_issuer = v.authority_cert_issuer;
+  authority_cert_serial_number = v.authority_cert_serial_number;
+}
+with_field (Issuer issuer) v = record {
+  key_identifier = v.key_identifier;
+  authority_cert_issuer = record { 0 = kept v.authority_cert_issuer.0 issuer };
+  authority_cert_serial_number = v.authority_cert_serial_number;
+}
+with_field (SerialNumber number) v = record {
+  key_identifier = v.key_identifier;
+  authority_cert_issuer = v.authority_cert_issuer;
+  authority_cert_serial_number = record { 0 = kept v.authority_cert_serial_number.0 number };
+}
+
+-- Whether a field of its tag is there.
+abbrev pub is_again : AuthorityField → AuthorityKeyIdentifier → Bool
+is_again (KeyIdentifier key) v = stands v.key_identifier.0
+is_again (Issuer issuer) v = stands v.authority_cert_issuer.0
+is_again (SerialNumber number) v = stands v.authority_cert_serial_number.0
+
+-- Whether a field of a lower tag is there: behind this field, it is out of order.
+abbrev pub is_late : AuthorityField → AuthorityKeyIdentifier → Bool
+is_late (KeyIdentifier key) v = false
+is_late (Issuer issuer) v = stands v.key_identifier.0
+is_late (SerialNumber number) v = stands v.key_identifier.0 || stands v.authority_cert_issuer.0
+
+-- A field in front of others: its tag may be there again, or one that is less.
 abbrev pub before : AuthorityField → Gathered → Gathered
-before (KeyIdentifier key) g = record {
-  value = record {
-    key_identifier = record { 0 = kept g.value.key_identifier.0 key };
-    authority_cert_issuer = g.value.authority_cert_issuer;
-    authority_cert_serial_number = g.value.authority_cert_serial_number;
-  };
-  is_disordered = g.is_disordered;
-  repeats = g.repeats + counted field_repeated (stands g.value.key_identifier.0);
-}
-before (Issuer issuer) g = record {
-  value = record {
-    key_identifier = g.value.key_identifier;
-    authority_cert_issuer = record { 0 = kept g.value.authority_cert_issuer.0 issuer };
-    authority_cert_serial_number = g.value.authority_cert_serial_number;
-  };
-  is_disordered = stands g.value.key_identifier.0 || g.is_disordered;
-  repeats = g.repeats + counted field_repeated (stands g.value.authority_cert_issuer.0);
-}
-before (SerialNumber number) g = record {
-  value = record {
-    key_identifier = g.value.key_identifier;
-    authority_cert_issuer = g.value.authority_cert_issuer;
-    authority_cert_serial_number = record { 0 = kept g.value.authority_cert_serial_number.0 number };
-  };
-  is_disordered = stands g.value.key_identifier.0 || (stands g.value.authority_cert_issuer.0 || g.is_disordered);
-  repeats = g.repeats + counted field_repeated (stands g.value.authority_cert_serial_number.0);
+before field g = record {
+  value = with_field field g.value;
+  is_disordered = is_late field g.value || g.is_disordered;
+  repeats = g.repeats + counted field_repeated (is_again field g.value);
 }
 
 -- the fields in front of what is gathered

@@ -66,6 +66,12 @@ ordered : {A : Type 0} (deviation : Deviation) (o : Option A) (d : Bool) → cou
 ordered deviation None d e = (refl, e)
 ordered deviation (Some x) d e = absurd (omega (arith, e))
 
+disordered : {A B : Type 0} (deviation : Deviation) (o : Option A) (p : Option B) (d : Bool) → counted deviation ((stands o || stands p) || d) ≡ 0
+    → (o ≡ None) × (p ≡ None) × (counted deviation d ≡ 0)
+disordered deviation None None d e = (refl, refl, e)
+disordered deviation None (Some y) d e = absurd (omega (arith, e))
+disordered deviation (Some x) p d e = absurd (omega (arith, e))
+
 zero_sum : (d r : ℕ) → d ≡ 0 → r ≡ 0 → d + r ≡ 0
 zero_sum d r e f = omega (arith, e, f)
 
@@ -92,18 +98,17 @@ in_front (Issuer issuer) g e =
     )
 in_front (SerialNumber number) g e =
     let v = g.value in
-    let parts = sums (counted fields_out_of_order (stands v.key_identifier.0 || (stands v.authority_cert_issuer.0 || g.is_disordered))) g.repeats
+    let parts = sums (counted fields_out_of_order ((stands v.key_identifier.0 || stands v.authority_cert_issuer.0) || g.is_disordered)) g.repeats
     (counted field_repeated (stands v.authority_cert_serial_number.0)) e in
-    let no_key = ordered fields_out_of_order v.key_identifier.0 (stands v.authority_cert_issuer.0 || g.is_disordered) parts.0 in
-    let no_issuer = ordered fields_out_of_order v.authority_cert_issuer.0 g.is_disordered no_key.1 in
+    let no_others = disordered fields_out_of_order v.key_identifier.0 v.authority_cert_issuer.0 g.is_disordered parts.0 in
     let no_number = unset field_repeated v.authority_cert_serial_number.0 parts.2 in (
-      zero_sum (counted fields_out_of_order g.is_disordered) g.repeats no_issuer.1 parts.1,
+      zero_sum (counted fields_out_of_order g.is_disordered) g.repeats no_others.2 parts.1,
       subst (λ (s : Option Number). SerialNumber number ∷ fields_of (made v.key_identifier.0 v.authority_cert_issuer.0 s)
           ≡ fields_of (made v.key_identifier.0 v.authority_cert_issuer.0 (kept s number))) (sym no_number)
           (subst (λ (i : Option From). SerialNumber number ∷ fields_of (made v.key_identifier.0 i None)
-          ≡ fields_of (made v.key_identifier.0 i (Some number))) (sym no_issuer.0)
+          ≡ fields_of (made v.key_identifier.0 i (Some number))) (sym no_others.1)
           (subst (λ (k : Option Key). SerialNumber number ∷ fields_of (made k None None)
-          ≡ fields_of (made k None (Some number))) (sym no_key.0) refl)),
+          ≡ fields_of (made k None (Some number))) (sym no_others.0) refl)),
     )
 
 pub authority_only : (fs : List AuthorityField) → authority_count fs ≡ 0 → fs ≡ fields_of (authority_of fs)

@@ -1,7 +1,6 @@
 //! Identifiers of the key that signed a certificate (RFC 5280, section 4.2.1.1).
 ghost use Rattle.std.specs.Prelude.{◌≡◌, IfOk, ℕ, Bool, List, Option, None, Some, MatchOption, MatchResult};
-ghost use Rattle.x509_extensions.specs.AuthorityFields.{stands, nothing, before, gathered_onto, implicit, explicit};
-ghost use Rattle.x509_extensions.specs.AuthorityFields as fields;
+ghost use Rattle.x509_extensions.specs.AuthorityFields.{stands, nothing, before, gathered_onto, implicit, explicit, kept, with_field};
 ghost use Rattle.asn1_der.specs.Octets.{sequence_octet};
 
 use crate::authority_field::AuthorityField;
@@ -216,70 +215,42 @@ fn gather(fields: Vec<AuthorityField>) -> Result<Gathered, X509Fault>
         repeats: 0,
     };
     'fields: while let Some(field) = fields.pop() {
-        made = with_front(field, made)?;
+        put_in_front(field, &mut made)?;
     }
     Ok(made)
 }
 
-// What is made with a field in front.
-fn with_front(field: AuthorityField, made: Gathered) -> Result<Gathered, X509Fault>
+// Puts a field in front of what is made.
+fn put_in_front(field: AuthorityField, made: &mut Gathered) -> Result<(), X509Fault>
     ensures { MatchResult result
-        (λ more. more ≡ before field made)
+        (λ _. made.new ≡ before field made.old)
         (λ fault. fault ≡ X509Fault.Memory) }
 {
-    let Gathered {
-        value,
-        is_disordered,
-        repeats,
-    } = made;
-    let has_key = is_there(&value.key_identifier.0);
-    let has_issuer = is_there(&value.authority_cert_issuer.0);
-    let AuthorityKeyIdentifier {
-        key_identifier,
-        authority_cert_issuer,
-        authority_cert_serial_number,
-    } = value;
+    let has_key = is_there(&made.value.key_identifier.0);
+    let has_issuer = is_there(&made.value.authority_cert_issuer.0);
+    let has_number = is_there(&made.value.authority_cert_serial_number.0);
+    let (is_again, is_late) = match &field {
+        AuthorityField::KeyIdentifier(_) => (has_key, false),
+        AuthorityField::Issuer(_) => (has_issuer, has_key),
+        AuthorityField::SerialNumber(_) => (has_number, has_key || has_issuer),
+    };
+    made.repeats = sum_of(made.repeats, usize::from(is_again))?;
+    made.is_disordered = is_late || made.is_disordered;
+    keep_field(field, &mut made.value);
+    Ok(())
+}
+
+// Puts a field in, unless a field of its tag follows it.
+fn keep_field(field: AuthorityField, value: &mut AuthorityKeyIdentifier)
+    ensures { value.new ≡ with_field field value.old }
+{
     match field {
-        AuthorityField::KeyIdentifier(key) => {
-            let repeats = sum_of(repeats, usize::from(has_key))?;
-            Ok(Gathered {
-                value: AuthorityKeyIdentifier {
-                    key_identifier: Optional(kept(key_identifier.0, key)),
-                    authority_cert_issuer,
-                    authority_cert_serial_number,
-                },
-                is_disordered,
-                repeats,
-            })
-        }
-        AuthorityField::Issuer(issuer) => {
-            let repeats = sum_of(repeats, usize::from(has_issuer))?;
-            Ok(Gathered {
-                value: AuthorityKeyIdentifier {
-                    key_identifier,
-                    authority_cert_issuer: Optional(kept(authority_cert_issuer.0, issuer)),
-                    authority_cert_serial_number,
-                },
-                is_disordered: has_key || is_disordered,
-                repeats,
-            })
-        }
-        AuthorityField::SerialNumber(number) => {
-            let has_number = is_there(&authority_cert_serial_number.0);
-            let repeats = sum_of(repeats, usize::from(has_number))?;
-            Ok(Gathered {
-                value: AuthorityKeyIdentifier {
-                    key_identifier,
-                    authority_cert_issuer,
-                    authority_cert_serial_number: Optional(kept(
-                        authority_cert_serial_number.0,
-                        number,
-                    )),
-                },
-                is_disordered: has_key || has_issuer || is_disordered,
-                repeats,
-            })
-        }
+        AuthorityField::KeyIdentifier(key) => keep(&mut value.key_identifier.0, key),
+        AuthorityField::Issuer(issuer) => keep(&mut value.authority_cert_issuer.0, issuer),
+        AuthorityField::SerialNumber(number) => keep(
+            &mut value.authority_cert_serial_number.0,
+            number,
+        ),
     }
 }
 
@@ -292,15 +263,14 @@ fn is_there<T>(field: &Option<T>) -> bool
     }
 }
 
-// The later of two fields of one tag. If none follows, it is this field.
-fn kept<T>(behind: Option<T>, field: T) -> Option<T>
+// Keeps the later of two fields of one tag. If none follows, it is this field.
+fn keep<T>(behind: &mut Option<T>, field: T)
 where
     T: Drop,
-    ensures { result ≡ fields.kept behind field }
+    ensures { behind.new ≡ kept behind.old field }
 {
-    match behind {
-        Some(behind) => Some(behind),
-        None => Some(field),
+    if !is_there(behind) {
+        *behind = Some(field);
     }
 }
 

@@ -6,7 +6,7 @@ use Rattle.x509_extensions.proofs.authority_key_identifier.gather.Goals as goal
 
 pub fields-preserved : goal.fields-preserved
 fields-preserved c =
-    ap (λ (g : Gathered). gathered_onto g c.pop.new.self.items) c.in_ok-made.ensures
+    ap (λ (g : Gathered). gathered_onto g c.pop.new.self.items) c.in_ok-put_in_front.ensures
     ∙ sym (gathered-last c.fields.made c.pop.new.self.items c.in-Some.field)
     ∙ ap (gathered_onto c.fields.made) (sym c.in-Some.ensures.items)
     ∙ c.fields.invariant
