@@ -27,7 +27,7 @@ pub enum LineFault {
     /// The key isn't as many pairs of hexadecimal digits as its suite's keys have octets.
     #[error("key: expected as many hexadecimal digits as a key of the suite has: 32, 48 or 64")]
     Key,
-    /// The realm's name is none of a realm, or has a control character.
+    /// The realm's name is none of a realm, or has an octet below 32.
     #[error("realm: expected 1 to 255 printable ASCII characters")]
     RealmName,
     /// The clock skew or the lifetime is out of its range.

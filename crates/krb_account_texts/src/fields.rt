@@ -161,7 +161,7 @@ fn octets_of(alloc: Global, digits: &str, otherwise: LineFault) -> Result<Vec<u8
     }
 }
 
-/// A realm's name, of which no character is a control character.
+/// A realm's name, of which no octet is below 32.
 #[tactic(auto, unfolding(crate::specs::Reading::realm_name_in))]
 pub(crate) fn realm_name_of_text(alloc: Global, text: &str) -> Result<GeneralStringAsn1, LineFault>
     ensures { IsAside LineFault.Memory (λ name. name) (realm_name_in text.now) result }

@@ -5,14 +5,7 @@ ghost use Rattle.krb_crypto.specs.Suites.{IsChecksumOf, IsCipherOf, IsCipherOfBy
 
 use aes_cts::{AES128_KEY_SIZE, AES256_KEY_SIZE, KerberosCryptoError};
 use des3_cbc::DES3_KEY_SIZE;
-use krb_constants::cksum_types::{
-    HMAC_SHA1_96_AES128, HMAC_SHA1_96_AES256, HMAC_SHA1_DES3_KD, HMAC_SHA256_128_AES128,
-    HMAC_SHA384_192_AES256,
-};
-use krb_constants::etypes::{
-    AES128_CTS_HMAC_SHA1_96, AES128_CTS_HMAC_SHA256_128, AES256_CTS_HMAC_SHA1_96,
-    AES256_CTS_HMAC_SHA384_192, DES3_CBC_SHA1_KD,
-};
+use krb_constants::{cksum_types, etypes};
 
 /// The ways to encrypt (RFC 3962, section 7; RFC 3961, section 6.3; RFC 8009, section 5).
 #[derive(Clone, Copy, Debug, PartialEq, Eq)]
@@ -67,11 +60,11 @@ impl From<CipherSuite> for u8 {
 
     fn from(suite: CipherSuite) -> u8 {
         match suite {
-            CipherSuite::Aes128CtsHmacSha196 => AES128_CTS_HMAC_SHA1_96 as u8,
-            CipherSuite::Aes256CtsHmacSha196 => AES256_CTS_HMAC_SHA1_96 as u8,
-            CipherSuite::Des3CbcSha1Kd => DES3_CBC_SHA1_KD as u8,
-            CipherSuite::Aes128CtsHmacSha256128 => AES128_CTS_HMAC_SHA256_128 as u8,
-            CipherSuite::Aes256CtsHmacSha384192 => AES256_CTS_HMAC_SHA384_192 as u8,
+            CipherSuite::Aes128CtsHmacSha196 => etypes::AES128_CTS_HMAC_SHA1_96 as u8,
+            CipherSuite::Aes256CtsHmacSha196 => etypes::AES256_CTS_HMAC_SHA1_96 as u8,
+            CipherSuite::Des3CbcSha1Kd => etypes::DES3_CBC_SHA1_KD as u8,
+            CipherSuite::Aes128CtsHmacSha256128 => etypes::AES128_CTS_HMAC_SHA256_128 as u8,
+            CipherSuite::Aes256CtsHmacSha384192 => etypes::AES256_CTS_HMAC_SHA384_192 as u8,
         }
     }
 }
@@ -110,15 +103,15 @@ impl TryFrom<usize> for CipherSuite {
     ghost try_from_gives = { λ number result. IsCipherOf number result };
 
     fn try_from(number: usize) -> Result<CipherSuite, KerberosCryptoError> {
-        if number == DES3_CBC_SHA1_KD {
+        if number == etypes::DES3_CBC_SHA1_KD {
             Ok(CipherSuite::Des3CbcSha1Kd)
-        } else if number == AES128_CTS_HMAC_SHA1_96 {
+        } else if number == etypes::AES128_CTS_HMAC_SHA1_96 {
             Ok(CipherSuite::Aes128CtsHmacSha196)
-        } else if number == AES256_CTS_HMAC_SHA1_96 {
+        } else if number == etypes::AES256_CTS_HMAC_SHA1_96 {
             Ok(CipherSuite::Aes256CtsHmacSha196)
-        } else if number == AES128_CTS_HMAC_SHA256_128 {
+        } else if number == etypes::AES128_CTS_HMAC_SHA256_128 {
             Ok(CipherSuite::Aes128CtsHmacSha256128)
-        } else if number == AES256_CTS_HMAC_SHA384_192 {
+        } else if number == etypes::AES256_CTS_HMAC_SHA384_192 {
             Ok(CipherSuite::Aes256CtsHmacSha384192)
         } else {
             Err(KerberosCryptoError::AlgorithmIdentifier(number))
@@ -184,11 +177,11 @@ impl From<ChecksumSuite> for u8 {
 
     fn from(suite: ChecksumSuite) -> u8 {
         match suite {
-            ChecksumSuite::HmacSha196Aes128 => HMAC_SHA1_96_AES128 as u8,
-            ChecksumSuite::HmacSha196Aes256 => HMAC_SHA1_96_AES256 as u8,
-            ChecksumSuite::HmacSha1Des3Kd => HMAC_SHA1_DES3_KD as u8,
-            ChecksumSuite::HmacSha256128Aes128 => HMAC_SHA256_128_AES128 as u8,
-            ChecksumSuite::HmacSha384192Aes256 => HMAC_SHA384_192_AES256 as u8,
+            ChecksumSuite::HmacSha196Aes128 => cksum_types::HMAC_SHA1_96_AES128 as u8,
+            ChecksumSuite::HmacSha196Aes256 => cksum_types::HMAC_SHA1_96_AES256 as u8,
+            ChecksumSuite::HmacSha1Des3Kd => cksum_types::HMAC_SHA1_DES3_KD as u8,
+            ChecksumSuite::HmacSha256128Aes128 => cksum_types::HMAC_SHA256_128_AES128 as u8,
+            ChecksumSuite::HmacSha384192Aes256 => cksum_types::HMAC_SHA384_192_AES256 as u8,
         }
     }
 }
@@ -236,15 +229,15 @@ impl TryFrom<usize> for ChecksumSuite {
     ghost try_from_gives = { λ number result. IsChecksumOf number result };
 
     fn try_from(number: usize) -> Result<ChecksumSuite, KerberosCryptoError> {
-        if number == HMAC_SHA1_DES3_KD {
+        if number == cksum_types::HMAC_SHA1_DES3_KD {
             Ok(ChecksumSuite::HmacSha1Des3Kd)
-        } else if number == HMAC_SHA1_96_AES128 {
+        } else if number == cksum_types::HMAC_SHA1_96_AES128 {
             Ok(ChecksumSuite::HmacSha196Aes128)
-        } else if number == HMAC_SHA1_96_AES256 {
+        } else if number == cksum_types::HMAC_SHA1_96_AES256 {
             Ok(ChecksumSuite::HmacSha196Aes256)
-        } else if number == HMAC_SHA256_128_AES128 {
+        } else if number == cksum_types::HMAC_SHA256_128_AES128 {
             Ok(ChecksumSuite::HmacSha256128Aes128)
-        } else if number == HMAC_SHA384_192_AES256 {
+        } else if number == cksum_types::HMAC_SHA384_192_AES256 {
             Ok(ChecksumSuite::HmacSha384192Aes256)
         } else {
             Err(KerberosCryptoError::AlgorithmIdentifier(number))
