@@ -6,7 +6,7 @@ use asn1_der::octets::SET;
 use std::alloc::{AllocError, Global};
 
 /// The signed attributes with the identifier octet of a SET OF in place of that of [0], which the signature covers (RFC 5652,
-/// section 5.4). Of no bytes it is none.
+/// section 5.4). Without bytes there are none.
 pub fn as_set(alloc: Global, signed_attributes: &[u8]) -> Result<Vec<u8>, AllocError>
     ensures { IfOk result (λ covered. covered.items ≡ as_set signed_attributes.now) }
 {

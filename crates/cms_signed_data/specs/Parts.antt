@@ -47,7 +47,7 @@ pub record HasParts (certificate attributes : List ℕ → ℕ → Type 0) (cont
   pub digest_at : IsPart bytes digest_place (element octet_string_octet digest)
   pub signature_at : IsPart bytes signature_place (element octet_string_octet signature)
 
--- of six fields of a SEQUENCE, the number 3 and the number 5
+-- What is said of six fields of a SEQUENCE holds of the number 3 and of the number 5.
 module _ {V I D A G S : Type 0} (v_spells : V → List ℕ → ℕ → Type 0) (v_are : SpellsElements v_spells) (i_spells : I → List ℕ → ℕ → Type 0) (i_are : SpellsElements i_spells)
     (d_spells : D → List ℕ → ℕ → Type 0) (d_are : SpellsElements d_spells) (a_spells : A → List ℕ → ℕ → Type 0) (a_are : SpellsElements a_spells)
     (g_spells : G → List ℕ → ℕ → Type 0) (g_are : SpellsElements g_spells) (s_spells : S → List ℕ → ℕ → Type 0) (s_are : SpellsElements s_spells)
@@ -107,7 +107,7 @@ module _ {V I D A G S : Type 0} (v_spells : V → List ℕ → ℕ → Type 0) (
         (row_front s_spells s_are Ends f.1.1.1.1.1 s4.0 s4.2 s5 some_5)));
   }
 
--- of five fields of a SEQUENCE, the numbers 2 to 4
+-- What is said of five fields of a SEQUENCE holds of the numbers 2 to 4.
 module _ {V D E C T : Type 0} (v_spells : V → List ℕ → ℕ → Type 0) (v_are : SpellsElements v_spells) (d_spells : D → List ℕ → ℕ → Type 0) (d_are : SpellsElements d_spells)
     (e_spells : E → List ℕ → ℕ → Type 0) (e_are : SpellsElements e_spells) (c_spells : C → List ℕ → ℕ → Type 0) (c_are : SpellsElements c_spells)
     (t_spells : T → List ℕ → ℕ → Type 0) (t_are : SpellsElements t_spells)

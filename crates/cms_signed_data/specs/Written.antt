@@ -92,11 +92,11 @@ pub record IsWritten (sign : List ℕ → Option Signed) (content_type content g
   pub spelled : content_info.ghosts.spells (info_of content_type content value signed) bytes count
   pub certificate_at : IsPart bytes certificate_place given
 
--- The given bytes are a certificate's, and the party doesn't sign. Test: `sign none`.
+-- Nothing is written where the given bytes are a certificate's and the party doesn't sign (RFC 5652, section 5.1). Test: `sign none`.
 abbrev pub IsUnsigned : (List ℕ → Option Signed) → List ℕ → List ℕ → List ℕ → Type 0
 IsUnsigned sign content_type content given =
     ((value : Certificate) × (count : ℕ) × certificate.ghosts.spells value given count) × (sign (signed_bytes content_type content) ≡ None)
 
--- The given bytes are no certificate. Test: `certificate with 00 behind`, `certificate empty`.
+-- Given bytes are refused that are no certificate (RFC 5280, section 4.1). Test: `certificate with 00 behind`, `certificate empty`.
 abbrev pub IsNoCertificate : List ℕ → Type 0
 IsNoCertificate given = (value : Certificate) (count : ℕ) → certificate.ghosts.spells value given count → ⊥

@@ -129,7 +129,7 @@ fn is_sha256_algorithm(algorithm: &RawAlgorithmIdentifier) -> bool
     ) && has_null(algorithm)
 }
 
-// Whether the parameters are NULL.
+// Whether the parameters are NULL, or missing: they are read as NULL.
 fn has_null(algorithm: &RawAlgorithmIdentifier) -> bool
     ensures { result ≡ is_null algorithm.now.parameters.0 }
 {

@@ -10,7 +10,7 @@
 //! Each type is read from each accepted spelling, its deviations are counted, and it is written in DER (`Spelled`). `OfForm::is_of_form`
 //! is true exactly of the values of the one form (`has_form`). The places of certificate, content, signed attributes, digest and signature
 //! in the bytes follow from the spelling (law `parts_held` in `specs/`). The parts are returned exactly where the bytes are signed content of the one form (`SignedContent::read`). Each slice is the part of the
-//! input at its path, and `judged` is the part of the signed attributes with the first octet 31. `SignedContent::write` writes that form
+//! input at its path, and `covered` is the part of the signed attributes with the first octet 31. `SignedContent::write` writes that form
 //! around the given certificate's own bytes, and it is read back (law `written_is_read`). Its `None` says that the party doesn't sign, and
 //! `Unreadable` that the bytes are no certificate.
 #![tactic(auto)]

@@ -27,7 +27,7 @@ use x509_names::Name;
 pub struct SignedContent<'a> {
     info: ContentInfo,
     slices: Slices<'a>,
-    judged: Vec<u8>,
+    covered: Vec<u8>,
 }
 
 impl<'a> Model for SignedContent<'a> {
@@ -40,7 +40,7 @@ impl<'a> Model for SignedContent<'a> {
     ghost view = { λ s. record { info = s.info; certificate = s.slices.certificate.now; signed_attributes = s.slices.signed_attributes.now } };
 
     ghost invariant = { λ s. (s.slices.content.now ≡ content_of s.info) × (s.slices.digest.now ≡ digest_of s.info)
-        × (s.slices.signature.now ≡ signature_of s.info) × (s.judged.items ≡ as_set s.slices.signed_attributes.now) };
+        × (s.slices.signature.now ≡ signature_of s.info) × (s.covered.items ≡ as_set s.slices.signed_attributes.now) };
 }
 
 impl<'a> SignedContent<'a> {
@@ -54,12 +54,12 @@ impl<'a> SignedContent<'a> {
         let Some(slices) = Slices::of_bytes(bytes) else {
             return Err(SignedFault::Unreadable);
         };
-        let judged = as_set(alloc, slices.signed_attributes)?;
+        let covered = as_set(alloc, slices.signed_attributes)?;
         let info: ContentInfo = read_of_form(alloc, bytes)?;
         Ok(SignedContent {
             info,
             slices,
-            judged,
+            covered,
         })
     }
 
@@ -131,10 +131,10 @@ impl<'a> SignedContent<'a> {
 
     /// What the signature covers: the signed attributes as they are in the input, with the identifier octet of a SET OF in
     /// place of that of [0] (RFC 5652, section 5.4).
-    pub fn judged(&self) -> &[u8]
+    pub fn covered(&self) -> &[u8]
         ensures { result.now ≡ as_set self.now.signed_attributes }
     {
-        self.judged.as_slice()
+        self.covered.as_slice()
     }
 
     /// Signed content in DER around the unchanged bytes of the certificate, with the SHA-256 of the content, signed by `keys`.
@@ -155,8 +155,8 @@ impl<'a> SignedContent<'a> {
     {
         let id = signer_id(alloc, certificate)?;
         let attributes = attribute_bytes(alloc, content_type, content)?;
-        let judged = as_set(alloc, &attributes)?;
-        let Some(signed) = keys.sign(alloc, &judged)? else {
+        let covered = as_set(alloc, &attributes)?;
+        let Some(signed) = keys.sign(alloc, &covered)? else {
             return Ok(None);
         };
         let signer = signer_bytes(alloc, &id, &attributes, signed)?;

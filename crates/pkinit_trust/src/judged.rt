@@ -40,7 +40,7 @@ impl<'a> From<&'a SignedContent<'a>> for JudgedContent<'a> {
             issuer: content.issuer(),
             serial: content.serial(),
             digest: content.digest(),
-            covered: content.judged(),
+            covered: content.covered(),
             algorithm: content.algorithm(),
             signature: content.signature(),
         }

@@ -97,7 +97,7 @@ fn put_signer(
     put_value(alloc, parts, content.issuer())?;
     put(alloc, parts, content.serial().as_signed_bytes_be())?;
     put(alloc, parts, content.signed_attributes())?;
-    put(alloc, parts, content.judged())?;
+    put(alloc, parts, content.covered())?;
     put(alloc, parts, content.digest())
 }
 

@@ -7,8 +7,8 @@ use Rattle.cms_signed_data.proofs.signed_content.SignedContent.read.Goals as goa
 pub returns-in_default : goal.returns-in_default
 returns-in_default c = no_content c.args.bytes.now Unreadable (λ info n s. c.in_default.ensures info n s)
 
-pub returns-in_err-judged : goal.returns-in_err-judged
-returns-in_err-judged c = exit_as _ Memory (Reads (IsSignedContent c.args.bytes.now)) c.from_residual.ensures.1 (inl refl)
+pub returns-in_err-covered : goal.returns-in_err-covered
+returns-in_err-covered c = exit_as _ Memory (Reads (IsSignedContent c.args.bytes.now)) c.from_residual.ensures.1 (inl refl)
 
 pub returns-in_err-info : goal.returns-in_err-info
 returns-in_err-info c =
@@ -24,4 +24,4 @@ pub invariant_of-result : goal.invariant_of-result
 invariant_of-result c =
     let told = told_form c.args.bytes.now c.in_ok-info.info c.in_ok-info.ensures in
     let parts = c.in-Some.ensures c.in_ok-info.info told.0.0 told.0.1 in
-    (parts.content_is, parts.digest_is, parts.signature_is, c.in_ok-judged.ensures)
+    (parts.content_is, parts.digest_is, parts.signature_is, c.in_ok-covered.ensures)

@@ -9,8 +9,8 @@ returns-in_err-id g c = at-exit _ _ _ _ c.from_residual.ensures.1 c.in_err-id.en
 pub returns-in_err-attributes : goal.returns-in_err-attributes
 returns-in_err-attributes g c = at-exit _ _ _ _ c.from_residual-in_err-attributes.ensures.1 (inl refl)
 
-pub returns-in_err-judged : goal.returns-in_err-judged
-returns-in_err-judged g c = at-exit _ _ _ _ c.from_residual-in_err-judged.ensures.1 (inl refl)
+pub returns-in_err-covered : goal.returns-in_err-covered
+returns-in_err-covered g c = at-exit _ _ _ _ c.from_residual-in_err-covered.ensures.1 (inl refl)
 
 pub returns-in_err-signed : goal.returns-in_err-signed
 returns-in_err-signed g c = at-exit _ _ _ _ c.from_residual-in_err-signed.ensures.1 (inl refl)
@@ -24,10 +24,10 @@ returns-in_err-bytes g c = at-exit _ _ _ _ c.from_residual-in_err-bytes.ensures.
 pub returns-in_default : goal.returns-in_default
 returns-in_default g c =
     unsigned (g.K.KeyFunctions.functions c.args.keys.now).sign c.args.content_type.now c.args.content.now c.args.certificate.now _ _ _ _ _ c.in_ok-id.ensures
-    c.deref.ensures.value c.in_ok-attributes.ensures.0 c.in_ok-judged.ensures c.deref-2.ensures.value _ c.in_ok-signed.ensures c.in_default.is
+    c.deref.ensures.value c.in_ok-attributes.ensures.0 c.in_ok-covered.ensures c.deref-2.ensures.value _ c.in_ok-signed.ensures c.in_default.is
 
 pub returns : goal.returns
 returns g c =
     written (g.K.KeyFunctions.functions c.args.keys.now).sign c.args.content_type.now c.args.content.now c.args.certificate.now _ _ _ _ _ c.in_ok-id.ensures
-    c.deref.ensures.value c.in_ok-attributes.ensures c.in_ok-judged.ensures c.deref-2.ensures.value _ c.in-Some.signed c.in_ok-signed.ensures c.in-Some.is
+    c.deref.ensures.value c.in_ok-attributes.ensures c.in_ok-covered.ensures c.deref-2.ensures.value _ c.in-Some.signed c.in_ok-signed.ensures c.in-Some.is
     _ _ _ _ _ c.deref-3.ensures.value c.deref-4.ensures.value c.in_ok-signer.ensures c.deref-5.ensures.value c.in_ok-bytes.ensures
