@@ -78,7 +78,8 @@ carried token =
 -- the step after the tokens of a later message, where Kerberos' first token is due
 abbrev pub responded_to : Terms → Tokens → Table (Result Step AcceptRefusal)
 responded_to terms tokens =
-    -- A later message has Kerberos' first token where that is due (RFC 4178, section 4.2.2). Test: `Not the token that is due.`.
+    -- The responseToken of a NegTokenResp is Kerberos' first token where that is due (RFC 4178, section 4.2.2).
+    -- Test: `Not the token that is due.`.
     need tokens.mechanism NotAToken (λ token. held token (record { supported = None; terms = terms; mic = tokens.mic }))
 
 -- the step where the initiator's MIC is due: the acceptor verifies it, or refuses the message that has none

@@ -1,5 +1,6 @@
 //! The context of an admission: its numbers and its key.
 ghost use Rattle.std.specs.Prelude.{◌≡◌, ◌≤◌, ◌+◌, ◌*◌, length, IsTrue, is_some};
+ghost use Rattle.krb_time.specs.Skew.{IsWithinDay};
 ghost use Rattle.asn1_leaves.specs.GeneralizedTime.{seconds_of};
 ghost use Rattle.gss_contexts.specs.Contexts.{is_newer};
 ghost use Rattle.krb_service.specs.ApReply.{reply_subkey};
@@ -95,7 +96,7 @@ fn sending_number(has_subkey: bool, has_reply: bool, words: &[u8], number: u64) 
 
 // The last microsecond at which a context of this ticket isn't over.
 fn end_of(endtime: GeneralizedTime, skew: u64) -> u64
-    requires { skew ≤ 86400000000 }
+    requires { IsWithinDay skew }
     ensures { result ≡ seconds_of endtime * 1000000 + skew }
 {
     Moment::at(endtime, 0).micros() + skew
@@ -110,7 +111,7 @@ pub(crate) fn end_terms(
     flags: ContextFlags,
     number: u64,
 ) -> ContextTerms
-    requires skew { skew ≤ 86400000000 }
+    requires skew { IsWithinDay skew }
     requires enough { 64 ≤ length words.now }
     ensures { result ≡ end_terms terms.now skew words.now admission.now flags number }
 {

@@ -1,6 +1,7 @@
 //! Contexts that are established.
 ghost use Rattle.std.specs.Prelude.{◌≡◌, ◌≤◌, length, IfOk, IfErr};
 ghost use Rattle.std.specs.Option.{option_map};
+ghost use Rattle.krb_time.specs.Skew.{IsWithinDay};
 ghost use Rattle.gss_acceptor.specs.Accepting.{IsEstablished, established_of};
 ghost use Rattle.gss_acceptor.specs.declared.refusal.AcceptRefusal.TheVariants.{Memory};
 
@@ -75,7 +76,7 @@ pub(crate) fn established_by(
     words: &[u8],
     admission: Admission,
 ) -> Result<Established, AcceptRefusal>
-    requires skew { skew ≤ 86400000000 }
+    requires skew { IsWithinDay skew }
     requires enough { 64 ≤ length words.now }
     ensures { IsEstablished terms.now skew words.now admission result }
 {

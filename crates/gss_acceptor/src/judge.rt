@@ -1,5 +1,6 @@
 //! Judges the admission of a context's client.
 ghost use Rattle.std.specs.Prelude.{◌≡◌, ◌≤◌, length};
+ghost use Rattle.krb_time.specs.Skew.{IsWithinDay};
 ghost use Rattle.gss_acceptor.specs.Accepting.{judged};
 
 use crate::checksum::{InitialChecksum, bound_by, initial_in};
@@ -24,7 +25,7 @@ pub(crate) fn judge(
     words: &[u8],
     admission: &Admission,
 ) -> Result<Judged, AcceptRefusal>
-    requires skew { skew ≤ 86400000000 }
+    requires skew { IsWithinDay skew }
     requires enough { 64 ≤ length words.now }
     ensures { result ≡ judged terms.now skew words.now admission.now }
 {

@@ -29,7 +29,8 @@ initial_octets initial = (le32 BINDINGS ++ initial.bindings) ++ le32 initial.fla
 abbrev pub initial_checksum : InitialChecksum → Checksum
 initial_checksum initial = record { cksumtype = record { 0 = pos GSS_API }; checksum = record { 0 = initial_octets initial } }
 
--- Flags that ask for what isn't offered: delegation, which is 1, DCE style, and any other of 64 and more (RFC 4121, section 4.1.1.1).
+-- Flags are refused that ask for what isn't offered: delegation, which is 1, DCE style, and any other of 64 and more (RFC 4121, section
+-- 4.1.1.1).
 -- Test: `initiate NotOffered`.
 abbrev pub is_beyond : ContextFlags → Bool
 is_beyond flags = is_set flags.0 DELEGATION || nat_le 64 flags.0

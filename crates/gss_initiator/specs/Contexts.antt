@@ -58,7 +58,7 @@ acceptor_key (Some key) = Ok (record { key = key; is_acceptors = true })
 abbrev pub context_key : KeyRecord → Option EncryptionKey → Result ContextKey InitiateRefusal
 context_key own None = Ok (record { key = own; is_acceptors = false })
 -- The context's key is the acceptor's subkey where the AP-REP has one, and else the initiator's (RFC 4121, section 2). It is a key of a
--- known suite. Test: `take ok`, `take UnknownKey`.
+-- known suite. Test: `The acceptor's subkey wins,`, `take UnknownKey`.
 context_key own (Some subkey) = acceptor_key (key_in subkey)
 
 -- the end that the AP-REP's part makes of a pending one

@@ -1,6 +1,6 @@
 -- Logins by GSS with what an honest login granted (RFC 4120, sections 3.1 to 3.3; RFC 4121, section 4.1).
-use Rattle.std.specs.Prelude.{◌≡◌, ◌≤◌, length, None}
-use Rattle.krb_types.specs.RandomBytes.{Random}
+use Rattle.std.specs.Prelude.{◌≡◌, length, None}
+use Rattle.krb_types.specs.RandomBytes.{Random, AreEnoughForRequest}
 use Rattle.krb_client.specs.Client.{ClientRecord, CredentialRecord}
 use Rattle.krb_service.specs.Seen.{IsWindow}
 use Rattle.krb_service.specs.Service.{ServiceRecord}
@@ -31,7 +31,7 @@ gss_login_of client credential initial words service terms before login = record
 pub record IsContextAsked (client : ClientRecord) (initial : InitialChecksum) (words : Random) : Type 0 where
   pub offered : refusal_of client.suite initial.flags ≡ None
   pub hashed : length initial.bindings ≡ 16
-  pub enough : 96 ≤ length words
+  pub enough : AreEnoughForRequest words
 
 -- the service remembers what the login says that it remembers
 pub record IsRemembered (service : ServiceRecord) (before : RememberedRecord) : Type 0 where

@@ -1,5 +1,5 @@
 -- Which logins by GSS are honest.
-use Rattle.std.specs.Prelude.{◌≡◌, ◌≤◌, true, length, None, Ok}
+use Rattle.std.specs.Prelude.{◌≡◌, true, length, None, Ok}
 use Rattle.std.specs.Int.{cast_unsigned, w32}
 use Rattle.std.specs.List.{list_all}
 use Rattle.asn1_der.specs.Tagged.{tagged_tree}
@@ -17,7 +17,7 @@ use Rattle.krb_messages.specs.Messages.{enc_ticket_part_tree}
 use Rattle.krb_ap_requests.specs.Presents.{SealsTo}
 use Rattle.krb_service.specs.Admissible.{IsAdmissible}
 use Rattle.krb_service.specs.Seen.{IsWindow}
-use Rattle.krb_types.specs.RandomBytes.{Random}
+use Rattle.krb_types.specs.RandomBytes.{Random, AreEnoughForRequest, AreEnoughForSubkey}
 use Rattle.gss_acceptor.specs.Checksum.{bound_by}
 use Rattle.gss_acceptor.specs.declared.checksum.InitialChecksum.{InitialChecksum}
 use Rattle.gss_acceptor.specs.declared.terms.AcceptorTerms.{AcceptorTerms}
@@ -35,7 +35,7 @@ pub record IsAsking (login : GssLogin) : Type 0 where
   pub hashed : length login.initial.bindings ≡ 16
   pub realm : is_general_string login.client.realm ≡ true
   pub name : list_all is_general_string login.client.components ≡ true
-  pub enough : 96 ≤ length login.words
+  pub enough : AreEnoughForRequest login.words
 
 -- the credential's ticket has an encoding, and its part is sealed under the service's key; the session key in the part is the
 -- credential's, and a key of its suite (RFC 4120, section 5.3)
@@ -51,7 +51,7 @@ pub record IsTicketOf (login : GssLogin) : Type 0 where
 -- bytes enough
 pub record IsAnswering (terms : AcceptorTerms) (initial : InitialChecksum) (words : Random) : Type 0 where
   pub bound : bound_by terms.bindings initial ≡ Ok initial
-  pub enough : 64 ≤ length words
+  pub enough : AreEnoughForSubkey words
 
 -- The client asks by a ticket that is for the service, and the service, which ever admitted these pairs, admits what the client chooses at
 -- its clock: names, times, kvno and clocks agree, and the authenticator is the first of its client and time (RFC 4120, section 3.2.3)

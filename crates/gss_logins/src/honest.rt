@@ -1,5 +1,6 @@
 //! Whether a login by GSS is honest: the premises of its laws, judged by what the parties hold.
-ghost use Rattle.std.specs.Prelude.{◌≤◌, IsTrue, length};
+ghost use Rattle.std.specs.Prelude.{IsTrue};
+ghost use Rattle.krb_types.specs.RandomBytes.{AreEnoughForRequest, AreEnoughForSubkey};
 ghost use Rattle.krb_logins.specs.Honest.{AreEnough};
 ghost use Rattle.krb_logins.specs.Input.{held_by, login_of, realm_of};
 ghost use Rattle.gss_logins.specs.Granted.{IsHonestGssLogin};
@@ -26,8 +27,8 @@ pub fn is_honest(
     words: &[u8],
 ) -> bool
     requires login { AreEnough (login_of input.now) }
-    requires context { 96 ≤ length words.now }
-    requires reply { 64 ≤ length input.now.service_words.now }
+    requires context { AreEnoughForRequest words.now }
+    requires reply { AreEnoughForSubkey input.now.service_words.now }
     ensures { IsTrue result → IsHonestGssLogin client.now (realm_of realm.now) service.now terms (held_by service.now) (login_of input.now) initial words.now }
 {
     client.is_well_formed();

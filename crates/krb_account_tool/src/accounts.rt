@@ -7,7 +7,7 @@ use crate::warnings::{RealmKey, Stream, is_service, warn_of_account, warn_of_rea
 use krb_account_texts::{
     AccountLine, EditRefusal, Line, RealmLine, add, change_key, principal_name, realm_among, remove,
 };
-use krb_accounts::{Account, Settings, realm_name_of};
+use krb_accounts::{Account, Settings, USUAL_LIFETIME, USUAL_SKEW, realm_name_of};
 use krb_commands::{Stop, begin, failed, refused};
 use krb_crypto::{CipherSuite, Key};
 use krb_settings::{Secret, suite_name};
@@ -18,12 +18,6 @@ use std::alloc::{AllocError, Global};
 
 /// The suite of a key for which none is given.
 const SUITE: CipherSuite = CipherSuite::Aes256CtsHmacSha196;
-
-/// How many seconds clocks may differ in a new realm.
-const FIRST_SKEW: u64 = 300;
-
-/// How many seconds a ticket of a new realm lasts at most.
-const FIRST_LIFETIME: u64 = 36_000;
 
 /// `create TEXT REALM`: makes a text of a realm, with the key of its ticket-granting service from standard input.
 pub(crate) fn create(rt: &HostRuntime, arguments: &[String]) -> Result<(), Stop> {
@@ -94,7 +88,7 @@ fn warn_of_created(rt: &HostRuntime, lines: &[Line]) -> Result<(), Stop> {
 fn realm_line(alloc: Global, name: &str) -> Result<RealmLine, Stop> {
     let (Ok(name), Ok(settings)) = (
         realm_name_of(alloc, name.as_bytes()),
-        Settings::new(FIRST_SKEW, FIRST_LIFETIME),
+        Settings::new(USUAL_SKEW, USUAL_LIFETIME),
     ) else {
         return Err(refused(alloc, "REALM: expected 1 to 255 printable ASCII characters"));
     };

@@ -6,13 +6,21 @@ pub record SettingsRecord : Type 0 where
   pub skew : Seconds
   pub lifetime : Seconds
 
+-- The clock skew is a day at most.
+abbrev pub most_skew : Seconds
+most_skew = 86400
+
+-- A ticket lasts a year of 365 days at most.
+abbrev pub most_lifetime : Seconds
+most_lifetime = 31536000
+
 -- at most a day
 abbrev pub IsSkew : Seconds → Type 0
-IsSkew skew = skew ≤ 86400
+IsSkew skew = skew ≤ most_skew
 
 -- at least a second, and at most a year of 365 days
 abbrev pub IsLifetime : Seconds → Type 0
-IsLifetime lifetime = (1 ≤ lifetime) × (lifetime ≤ 31536000)
+IsLifetime lifetime = (1 ≤ lifetime) × (lifetime ≤ most_lifetime)
 
 -- The clock skew and the greatest lifetime are in their ranges, both in seconds.
 abbrev pub AreSettings : Seconds → Seconds → Type 0

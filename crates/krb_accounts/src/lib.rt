@@ -22,4 +22,4 @@ pub use names::{
 pub use packed::{BLOCK_ROOM, pack, pack_within};
 pub use passwords::password_salt;
 pub use refusal::RealmRefusal;
-pub use settings::{LIFETIME_LIMIT, SKEW_LIMIT, Settings};
+pub use settings::{LIFETIME_LIMIT, SKEW_LIMIT, Settings, USUAL_LIFETIME, USUAL_SKEW};

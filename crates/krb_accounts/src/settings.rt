@@ -12,6 +12,12 @@ pub const SKEW_LIMIT: u64 = 86_400;
 /// The most seconds for which tickets may be allowed to last: a year of 365 days.
 pub const LIFETIME_LIMIT: u64 = 31_536_000;
 
+/// How many seconds clocks may differ where nothing else is asked for: five minutes.
+pub const USUAL_SKEW: u64 = 300;
+
+/// How many seconds tickets last where nothing else is asked for: ten hours.
+pub const USUAL_LIFETIME: u64 = 36_000;
+
 /// A realm's settings: how far clocks may differ, and how long tickets last. A contract sees both.
 #[derive(Clone, Copy, Debug, PartialEq, Eq)]
 pub struct Settings {

@@ -1,5 +1,6 @@
 //! The AP exchange of a login.
-ghost use Rattle.std.specs.Prelude.{◌≡◌, ◌≤◌, List, length, IfOk};
+ghost use Rattle.std.specs.Prelude.{◌≡◌, List, IfOk};
+ghost use Rattle.krb_types.specs.RandomBytes.{AreEnoughForApReply, AreEnoughForRequest};
 ghost use Rattle.krb_logins.specs.Input.{login_of};
 ghost use Rattle.krb_logins.specs.Honest.{AreEnough};
 ghost use Rattle.krb_logins.specs.LoginRun.{ApExchange};
@@ -46,7 +47,7 @@ fn ask_ap(
     credential: &Credential,
     input: &LoginInput<'_>,
 ) -> Result<(Vec<u8>, ApAsked), LoginRefusal>
-    requires { 96 ≤ length input.now.words_ap.now }
+    requires { AreEnoughForRequest input.now.words_ap.now }
     ensures { ApAsk client.now (login_of input.now) credential.now result }
 {
     let moment = input.moments.client_ap;
@@ -62,7 +63,7 @@ fn admit(
     message: &[u8],
     input: &LoginInput<'_>,
 ) -> Result<Admission, LoginRefusal>
-    requires { 16 ≤ length input.now.service_words.now }
+    requires { AreEnoughForApReply input.now.service_words.now }
     ensures admits { (admitted : List PairRecord) → IsWindow service.old.seen admitted
         → Admit service.old (login_of input.now) message.now (remembered service.old admitted) result service.new.seen }
     ensures rest { service.new ≡ record service.old { seen = service.new.seen } }

@@ -1,11 +1,12 @@
 //! Judging a request: the rows of the table, part by part.
-ghost use Rattle.std.specs.Prelude.{◌≡◌, ◌≤◌};
+ghost use Rattle.std.specs.Prelude.{◌≡◌};
 ghost use Rattle.krb_crypto.specs.Suites.{cipher_number};
 ghost use Rattle.krb_types.specs.Names.{components};
 ghost use Rattle.krb_types.specs.Refusals.{IsJudged};
 ghost use Rattle.krb_ap_requests.specs.ApTable.{for_service, ap_fields, authenticated, enc_part_in, is_early, is_for, is_late, is_of_client, is_version_5, kvno_fits, opened, opened_part, presented_with, ticket_in, ticket_start, timely, authenticator_time, valid_authenticator, valid_part};
 ghost use Rattle.asn1_leaves.specs.GeneralizedTime.{seconds_of};
 ghost use Rattle.std.specs.Int.{cast_unsigned, w32};
+ghost use Rattle.krb_time.specs.Skew.{IsWithinDay};
 
 use crate::messages::{open_authenticator, open_part};
 use crate::presented::{Authenticated, Presented};
@@ -120,7 +121,7 @@ pub fn check_ticket(
     moment: Moment,
     encrypted: &EncryptedData,
 ) -> Result<EncTicketPartInner, Refusal>
-    requires { skew ≤ 86400000000 }
+    requires { IsWithinDay skew }
     ensures { IsJudged (valid_part key.now.suite key.now.bytes skew moment encrypted.now).gives result }
 {
     let part = open_ticket(alloc, key, encrypted)?;
@@ -145,7 +146,7 @@ pub fn open_ticket(
 /// Judges a ticket's times and flags at a moment: it has to have started and be valid (code 33), and must not have ended
 /// (32; RFC 4120, section 3.2.3). The skew is in microseconds, a day at most.
 pub fn check_times(skew: u64, moment: Moment, part: &EncTicketPartInner) -> Result<(), Refusal>
-    requires { skew ≤ 86400000000 }
+    requires { IsWithinDay skew }
     ensures { IsJudged (timely skew moment part.now).gives result }
 {
     if is_early(skew, moment, part) {
@@ -169,7 +170,7 @@ fn start_of(part: &EncTicketPartInner) -> GeneralizedTime
 
 // Whether the ticket starts later than the moment and the skew, or its flag invalid is set.
 fn is_early(skew: u64, moment: Moment, part: &EncTicketPartInner) -> bool
-    requires { skew ≤ 86400000000 }
+    requires { IsWithinDay skew }
     ensures { result ≡ is_early skew moment part.now }
 {
     moment.is_before(start_of(part), skew) || part.flags.0.bit(ticket_flags::INVALID)
@@ -177,7 +178,7 @@ fn is_early(skew: u64, moment: Moment, part: &EncTicketPartInner) -> bool
 
 // Whether the moment is later than the ticket's endtime and the skew.
 fn is_late(skew: u64, moment: Moment, part: &EncTicketPartInner) -> bool
-    requires { skew ≤ 86400000000 }
+    requires { IsWithinDay skew }
     ensures { result ≡ is_late skew moment part.now }
 {
     moment.is_after(part.endtime.0.0, skew)

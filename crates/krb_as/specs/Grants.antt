@@ -22,7 +22,7 @@ pub record Principals : Type 0 where
   pub service_name : PrincipalName
   pub service : AccountRecord
 
--- the same, as the code has them
+-- The principals of a granted request, which the code borrows.
 abbrev pub principals_of : held.Principals → Principals
 principals_of these = record {
   client_name = these.client_name.now;

@@ -1,5 +1,6 @@
 //! Granting a first ticket.
-ghost use Rattle.std.specs.Prelude.{◌≡◌, ◌≤◌, Ok, length, IfOk};
+ghost use Rattle.std.specs.Prelude.{◌≡◌, Ok, IfOk};
+ghost use Rattle.krb_types.specs.RandomBytes.{AreEnoughForReply};
 ghost use Rattle.krb_tickets.specs.ReplyKeys.{reply_key_of};
 ghost use Rattle.krb_as.specs.Preauthentication.{reply_key_by};
 ghost use Rattle.krb_kdc_requests.specs.Call.{call_of};
@@ -36,7 +37,7 @@ pub(crate) fn grant(
     span: Span,
     body: &KdcReqBody,
 ) -> Result<Vec<u8>, AllocError>
-    requires { 128 ≤ length call.now.words.now }
+    requires { AreEnoughForReply call.now.words.now }
     ensures { IfOk result (λ bytes. (granted (call_of call.now) (principals_of principals.entry) (reply_key_by principals.entry.client.now authenticated.now) span body.now).gives (Ok bytes.items)) }
 {
     let grant = first_ticket(alloc, call, principals, span, body)?;
@@ -64,7 +65,7 @@ fn first_ticket<'a>(
     span: Span,
     body: &'a KdcReqBody,
 ) -> Result<Grant<'a>, AllocError>
-    requires { 128 ≤ length call.now.words.now }
+    requires { AreEnoughForReply call.now.words.now }
     ensures { IfOk result (λ grant. grant_of grant ≡ first_ticket (call_of call.now) (principals_of principals.entry) body.now span) }
 {
     let suite = principals.client.suite();

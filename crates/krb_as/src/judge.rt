@@ -1,5 +1,6 @@
 //! Judges AS requests by the rows of a realm's table, part by part.
-ghost use Rattle.std.specs.Prelude.{◌≡◌, ◌≤◌, length, Some};
+ghost use Rattle.std.specs.Prelude.{◌≡◌, Some};
+ghost use Rattle.krb_types.specs.RandomBytes.{AreEnoughForReply};
 ghost use Rattle.krb_as.specs.AsTable.{authenticated, authenticated_by, is_later, is_listed, possible, timestamped};
 ghost use Rattle.krb_as.specs.Preauthentication.{reply_key_as};
 ghost use Rattle.krb_kdc_requests.specs.Call.{call_of};
@@ -78,7 +79,7 @@ pub(crate) fn authenticate<P: Pkinit>(
     name: &[GeneralStringAsn1],
     request: &KdcReq,
 ) -> Result<Preauthentication, Refusal>
-    requires { 128 ≤ length call.now.words.now }
+    requires { AreEnoughForReply call.now.words.now }
     ensures { IsJudged (authenticated (call_of call.now) (P.rows pkinit.now) client.now name.now request.now).gives (reply_key_as client.now result) }
 {
     let padata = padata_in(request);
@@ -107,7 +108,7 @@ fn agree_by<P: Pkinit>(
     request: &KdcReq,
     padata: &[u8],
 ) -> Result<Preauthentication, Refusal>
-    requires { 128 ≤ length call.now.words.now }
+    requires { AreEnoughForReply call.now.words.now }
     ensures { IsJudged (authenticated_by (call_of call.now) (P.rows pkinit.now) client.now name.now request.now (Some padata.now)).gives (reply_key_as client.now result) }
 {
     let pkinit_call = PkinitCall {

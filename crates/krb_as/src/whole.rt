@@ -1,6 +1,6 @@
 //! Judges an AS request by the whole table.
-ghost use Rattle.std.specs.Prelude.{◌≤◌, length};
 ghost use Rattle.std.specs.Option.{option_copied};
+ghost use Rattle.krb_types.specs.RandomBytes.{AreEnoughForReply};
 ghost use Rattle.krb_as.specs.AsTable.{as_table};
 ghost use Rattle.krb_kdc_requests.specs.Call.{call_of};
 ghost use Rattle.krb_kdc_requests.specs.Granting.{IsGranted};
@@ -26,7 +26,7 @@ pub fn judge_as<P: Pkinit>(
     service: Option<&Account>,
     request: &KdcReq,
 ) -> Result<Vec<u8>, Refusal>
-    requires { 128 ≤ length call.now.words.now }
+    requires { AreEnoughForReply call.now.words.now }
     ensures { IsGranted (as_table (call_of call.now) (P.rows pkinit.now) (option_copied client.entry) (option_copied service.entry) request.now).gives result }
 {
     check_header(AS_REQ_MSG_TYPE, call.realm, request)?;

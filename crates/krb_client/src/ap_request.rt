@@ -1,6 +1,7 @@
 //! Asking a service.
-ghost use Rattle.std.specs.Prelude.{◌≡◌, ◌≤◌, ℕ, List, length, IfErr, IfOk};
+ghost use Rattle.std.specs.Prelude.{◌≡◌, ℕ, List, IfErr, IfOk};
 ghost use Rattle.std.specs.Option.{option_map};
+ghost use Rattle.krb_types.specs.RandomBytes.{AreEnoughForRequest};
 ghost use Rattle.krb_client.specs.ApRequest.{AsksAp, ap_asked, chosen_subkey};
 ghost use Rattle.krb_encrypted_data.specs.Sealing.{encryption_key};
 
@@ -32,7 +33,7 @@ impl Client {
         moment: Moment,
         words: &[u8],
     ) -> Result<(Vec<u8>, ApAsked), AskRefusal>
-        requires { 96 ≤ length words.now }
+        requires { AreEnoughForRequest words.now }
         ensures asks { IfOk result (λ r.
             AsksAp self.now credential.now mutual_required with_subkey moment words.now r.0.items) }
         ensures only { IfOk result (λ r. (other : List ℕ)
@@ -65,7 +66,7 @@ fn subkey_of(
     suite: CipherSuite,
     words: &[u8],
 ) -> Result<Option<OctetStringAsn1>, AllocError>
-    requires { 96 ≤ length words.now }
+    requires { AreEnoughForRequest words.now }
     ensures { IfOk result (λ subkey. subkey ≡ chosen_subkey with_subkey suite words.now) }
 {
     if !with_subkey {

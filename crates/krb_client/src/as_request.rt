@@ -1,5 +1,6 @@
 //! Asking for a first ticket.
-ghost use Rattle.std.specs.Prelude.{◌≡◌, ◌≤◌, ◌↔◌, ℕ, List, length, false, Err, IfErr, IfOk};
+ghost use Rattle.std.specs.Prelude.{◌≡◌, ◌↔◌, ℕ, List, false, Err, IfErr, IfOk};
+ghost use Rattle.krb_types.specs.RandomBytes.{AreEnoughForRequest};
 ghost use Rattle.krb_accounts.specs.Names.{are_components, parts};
 ghost use Rattle.krb_client.specs.AsRequest.{AsksAs, IsUnasked, as_asked, as_body, as_request_of};
 ghost use Rattle.krb_client.specs.Means.{IsUnshown};
@@ -35,7 +36,7 @@ impl Client {
         moment: Moment,
         words: &[u8],
     ) -> Result<(Vec<u8>, AsAsked), AskRefusal>
-        requires { 96 ≤ length words.now }
+        requires { AreEnoughForRequest words.now }
         ensures asks { IfOk result (λ r.
             AsksAs self.now (M.means means.now) (parts service.now) till moment words.now r.0.items) }
         ensures only { IfOk result (λ r. (other : List ℕ)
@@ -66,7 +67,7 @@ impl Client {
         moment: Moment,
         words: &[u8],
     ) -> Result<Vec<u8>, AskRefusal>
-        requires { 96 ≤ length words.now }
+        requires { AreEnoughForRequest words.now }
         ensures asks { IfOk result (λ bytes.
             AsksAs self.now (M.means means.now) service.now till moment words.now bytes.items) }
         ensures refusal { IfErr result (IsUnshown (M.means means.now) (as_body self.now service.now till words.now) moment words.now) }

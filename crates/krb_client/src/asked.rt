@@ -1,6 +1,7 @@
 //! What a client remembers of its requests.
-ghost use Rattle.std.specs.Prelude.{◌≡◌, ◌≤◌, length};
+ghost use Rattle.std.specs.Prelude.{◌≡◌, length};
 ghost use Rattle.std.specs.Option.{option_copied};
+ghost use Rattle.krb_types.specs.RandomBytes.{AreEnoughForRequest};
 ghost use Rattle.krb_client.specs.Asked.{agreement_part};
 
 use crate::agreement::agreement_part;
@@ -34,7 +35,7 @@ impl Model for AsAsked {
 impl AsAsked {
     /// What there is to remember of a request for this service, with this nonce, at the moment. `words`: random bytes, 96 or more.
     pub fn new(service: Vec<GeneralStringAsn1>, nonce: u32, moment: Moment, words: &[u8]) -> AsAsked
-        requires { 96 ≤ length words.now }
+        requires { AreEnoughForRequest words.now }
         ensures { result ≡ record { service = service.items; nonce = nonce; moment = moment; agreement = agreement_part words.now } }
     {
         let mut agreement = [0; AGREEMENT_SIZE];

@@ -1,5 +1,6 @@
 //! Authenticating by a key.
-ghost use Rattle.std.specs.Prelude.{◌≡◌, ◌≤◌, length, IfOk};
+ghost use Rattle.std.specs.Prelude.{◌≡◌, length, IfOk};
+ghost use Rattle.krb_types.specs.RandomBytes.{AreEnoughForRequest};
 ghost use Rattle.krb_client.specs.Messages.{encrypted_bytes, timestamp_bytes};
 ghost use Rattle.krb_client.specs.Requests.{pa_data_of};
 ghost use Rattle.krb_client.specs.EncryptedTimestamps.{IsSealedTime, IsPaEncTimestamp, timestamp_of};
@@ -65,7 +66,7 @@ fn padata_of_moment(
     moment: Moment,
     words: &[u8],
 ) -> Result<PaData, AllocError>
-    requires { 96 ≤ length words.now }
+    requires { AreEnoughForRequest words.now }
     ensures { IfOk result (IsPaEncTimestamp key.now.suite key.now.bytes moment words.now) }
 {
     let confounder = confounder_at(key.suite(), words, TIMESTAMP_CONFOUNDER);

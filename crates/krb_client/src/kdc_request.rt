@@ -1,5 +1,6 @@
 //! Requests to a KDC: what those for a first ticket and for further ones have in common.
-ghost use Rattle.std.specs.Prelude.{◌≡◌, ◌≤◌, [], ◌∷◌, length, pos, IfOk};
+ghost use Rattle.std.specs.Prelude.{◌≡◌, [], ◌∷◌, pos, IfOk};
+ghost use Rattle.krb_types.specs.RandomBytes.{AreEnoughForRequest};
 ghost use Rattle.krb_crypto.specs.Suites.{cipher_number};
 ghost use Rattle.krb_client.specs.Requests.{pa_data_of, name_where, no_options, nonce_of, request_body, kdc_request_of};
 
@@ -109,7 +110,7 @@ pub(crate) fn kdc_request_of(
 /// The nonce of a request: four of its random bytes, big-endian, of which 31 bits count. `words`: random bytes, 96 or more, of which the
 /// nonce is 16 to 19.
 pub fn nonce_of(words: &[u8]) -> u32
-    requires { 96 ≤ length words.now }
+    requires { AreEnoughForRequest words.now }
     ensures { result ≡ nonce_of words.now }
 {
     let mut octets = [0; 4];

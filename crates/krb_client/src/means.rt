@@ -1,5 +1,6 @@
 //! How a client authenticates itself.
-ghost use Rattle.std.specs.Prelude.{◌≤◌, length, IfErr, IfOk};
+ghost use Rattle.std.specs.Prelude.{IfErr, IfOk};
+ghost use Rattle.krb_types.specs.RandomBytes.{AreEnoughForRequest};
 ghost use Rattle.krb_client.specs.Refusals.{IsTaken};
 
 use crate::asked::AsAsked;
@@ -29,7 +30,7 @@ pub trait Means {
         moment: Moment,
         words: &[u8],
     ) -> Result<PaData, AskRefusal>
-        requires { 96 ≤ length words.now }
+        requires { AreEnoughForRequest words.now }
         ensures shown { IfOk result ((means self.now).asks body.now moment words.now) }
         ensures refusal { IfErr result (IsUnshown (means self.now) body.now moment words.now) };
 

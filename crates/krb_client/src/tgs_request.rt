@@ -1,5 +1,6 @@
 //! Asking for a service ticket.
-ghost use Rattle.std.specs.Prelude.{◌≡◌, ◌≤◌, ◌↔◌, ◌⊎◌, ℕ, List, length, false, Err, IfErr, IfOk};
+ghost use Rattle.std.specs.Prelude.{◌≡◌, ◌↔◌, ◌⊎◌, ℕ, List, length, false, Err, IfErr, IfOk};
+ghost use Rattle.krb_types.specs.RandomBytes.{AreEnoughForRequest};
 ghost use Rattle.krb_accounts.specs.Names.{are_components, parts};
 ghost use Rattle.krb_client.specs.Messages.{tgs_request_bytes};
 ghost use Rattle.krb_messages.specs.Bodies.{body_bytes};
@@ -44,7 +45,7 @@ impl Client {
         moment: Moment,
         words: &[u8],
     ) -> Result<(Vec<u8>, TgsAsked), AskRefusal>
-        requires { 96 ≤ length words.now }
+        requires { AreEnoughForRequest words.now }
         ensures asks { IfOk result (λ r.
             AsksTgs self.now credential.now (parts service.now) till moment words.now r.0.items) }
         ensures only { IfOk result (λ r. (other : List ℕ)
@@ -75,7 +76,7 @@ impl Client {
         moment: Moment,
         words: &[u8],
     ) -> Result<Vec<u8>, AllocError>
-        requires { 96 ≤ length words.now }
+        requires { AreEnoughForRequest words.now }
         ensures { IfOk result (λ bytes.
             AsksTgs self.now credential.now service.now till moment words.now bytes.items) }
     {

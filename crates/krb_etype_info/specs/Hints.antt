@@ -89,7 +89,8 @@ error_hint suites bytes =
     -- The bytes are the DER encoding of one KRB-ERROR (RFC 4120, section 5.9.1). Test: `cut` of `hints.txt`.
     ask (IsKrbError bytes) (sole_krb_error bytes) (done (Err Unreadable)) (hint_of_error suites)
 
--- What the padata of an AS reply says of the key of a suite. Without PA-ETYPE-INFO2 the salt is the default one (RFC 4120, section 5.2.7.5).
+-- The padata of an AS reply may name the salt of the client's key. Without PA-ETYPE-INFO2 the salt is the default one (RFC 4120, section
+-- 5.2.7.5).
 -- Test: `reply without padata`, `reply, entry of another suite`, `reply, other rounds`, `reply, damaged info` of `hints.txt`.
 -- Not judged: that there is exactly one entry (RFC 4120, section 5.2.7.5). Test: `reply, two entries` of `hints.txt`.
 abbrev pub hint_of_padata : CipherSuite → Option Bytes → Table Hinted

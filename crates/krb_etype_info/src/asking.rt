@@ -1,5 +1,6 @@
 //! The first request, which has no padata.
-ghost use Rattle.std.specs.Prelude.{◌≡◌, ◌≤◌, ◌↔◌, ◌⊎◌, length, false, Err, IfErr, IfOk};
+ghost use Rattle.std.specs.Prelude.{◌≡◌, ◌↔◌, ◌⊎◌, false, Err, IfErr, IfOk};
+ghost use Rattle.krb_types.specs.RandomBytes.{AreEnoughForRequest};
 ghost use Rattle.krb_accounts.specs.Names.{are_components, parts};
 ghost use Rattle.krb_client.specs.AsRequest.{as_asked};
 ghost use Rattle.krb_client.specs.Messages.{as_request_bytes};
@@ -32,7 +33,7 @@ pub fn first_request(
     moment: Moment,
     words: &[u8],
 ) -> Result<(Vec<u8>, AsAsked), AskRefusal>
-    requires { 96 ≤ length words.now }
+    requires { AreEnoughForRequest words.now }
     ensures asks { IfOk result (λ r. r.0.items ≡ first_request_bytes client.now suites.now (parts service.now) till words.now) }
     ensures asked { IfOk result (λ r. r.1 ≡ as_asked (parts service.now) moment words.now) }
     ensures bad_name { (result ≡ Err AskRefusal.BadName) ↔ (are_components (parts service.now) ≡ false) }
@@ -60,7 +61,7 @@ fn first_body(
     till: GeneralizedTime,
     words: &[u8],
 ) -> Result<KdcReqBody, AllocError>
-    requires { 96 ≤ length words.now }
+    requires { AreEnoughForRequest words.now }
     ensures { IfOk result (λ body. body ≡ first_body client.now suites.now service.now till words.now) }
 {
     let list = etypes(alloc, suites);

@@ -1,5 +1,6 @@
 //! Answers from one opened file.
-ghost use Rattle.std.specs.Prelude.{◌≡◌, ◌⊎◌, ◌≤◌, ℕ, List, Some, IfErr, IfOk, length};
+ghost use Rattle.std.specs.Prelude.{◌≡◌, ◌⊎◌, ℕ, List, Some, IfErr, IfOk};
+ghost use Rattle.krb_types.specs.RandomBytes.{AreEnoughForReply};
 ghost use Rattle.krb_accounts.specs.Accounts.{Look};
 ghost use Rattle.krb_lookups.specs.Answers.{IsAnswerBy, MayRefuse};
 ghost use Rattle.krb_kdc_requests.specs.Begins.{BeginsRequest};
@@ -34,7 +35,7 @@ pub fn answer_from<F: ReadAt>(
     moment: Moment,
     words: &[u8],
 ) -> Result<Vec<u8>, LookupRefusal>
-    requires { 128 ≤ length words.now }
+    requires { AreEnoughForReply words.now }
     ensures answer { (bytes : List ℕ) → F.content accounts.now.file ≡ Some bytes
         → IfOk result (λ reply. FileReplies bytes message.now moment words.now reply.items) }
     ensures refusal { IfErr result (MayRefuse (IsLacking (F.content accounts.now.file) (F.fails accounts.now.file)) message.now) }
@@ -57,7 +58,7 @@ fn answer_for<F: ReadAt>(
     moment: Moment,
     words: &[u8],
 ) -> Result<Vec<u8>, LookupRefusal>
-    requires words { 128 ≤ length words.now }
+    requires words { AreEnoughForReply words.now }
     requires begins { BeginsRequest message.now }
     ensures answer { (all : Look) → Holds (F.content accounts.now.file) all
         → IsAnswerBy (ReplyByRealm realm.now all message.now moment words.now) result }
@@ -86,7 +87,7 @@ fn answer_by_octets<F: ReadAt>(
     octets: &[u8],
     message: &[u8],
 ) -> Result<Vec<u8>, LookupRefusal>
-    requires words { 128 ≤ length call.now.words.now }
+    requires words { AreEnoughForReply call.now.words.now }
     requires begins { BeginsRequest message.now }
     ensures answer { (all : Look) → Holds (F.content accounts.now.file) all
         → IsAnswerBy (ReplyByOctets octets.now (call_with call.now all) message.now) result }

@@ -4,13 +4,21 @@ use Rattle.byteorder.specs.Endian.{big_bytes, big_number}
 use Rattle.krb_frames.specs.declared.fault.ServeFault.{ServeFault}
 use Rattle.krb_frames.specs.declared.fault.ServeFault.TheVariants.{Truncated, FrameTooLong}
 
+-- A message has so many bytes at most.
+abbrev pub frame_limit : ℕ
+frame_limit = 65536
+
+-- Each message takes so many random bytes.
+abbrev pub words_needed : ℕ
+words_needed = 128
+
 -- the length that the first four bytes of a stream announce
 abbrev pub announced : List ℕ → ℕ
 announced stream = big_number 4 stream
 
 -- the most bytes that reading the first frame consumes: its length, and its message where that isn't too long
 abbrev pub frame_room : List ℕ → ℕ
-frame_room stream = if nat_lt 65536 (announced stream) then 4 else 4 + announced stream
+frame_room stream = if nat_lt frame_limit (announced stream) then 4 else 4 + announced stream
 
 -- a reply in its frame
 abbrev pub framed : List ℕ → List ℕ
@@ -31,7 +39,7 @@ front_of stream =
     -- The stream doesn't end inside a length (RFC 4120, section 7.2.2). Test: `serve` of `realms.txt`.
     (if nat_lt (length stream) 4 then Bad Truncated
     -- A length is 65,536 at most (RFC 4120, section 7.2.2). Test: `serve` of `realms.txt`.
-    else if nat_lt 65536 (announced stream) then Bad FrameTooLong
+    else if nat_lt frame_limit (announced stream) then Bad FrameTooLong
     -- The stream doesn't end inside a message (RFC 4120, section 7.2.2). Test: `stops_at_the_first_fault`.
     else if nat_lt (length (drop 4 stream)) (announced stream) then Bad Truncated
     else Whole (take (announced stream) (drop 4 stream)) (drop (announced stream) (drop 4 stream)))

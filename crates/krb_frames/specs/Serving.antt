@@ -7,7 +7,7 @@ use Rattle.byte_streams.specs.Counting.{one_more}
 use Rattle.krb_time.specs.Units.{Micros}
 use Rattle.krb_frames.specs.declared.fault.ServeFault.{ServeFault}
 use Rattle.krb_frames.specs.declared.fault.ServeFault.TheVariants.{Truncated, FrameTooLong, NoRequest, Read, Write, NoWords, NoMoment, ReplyTooLong, Memory, Accounts}
-use Rattle.krb_frames.specs.Frames.{Ended, Bad, Whole, announced, frame_room, front_of, framed}
+use Rattle.krb_frames.specs.Frames.{Ended, Bad, Whole, announced, frame_room, front_of, framed, frame_limit, words_needed}
 
 -- the property holds of the bytes of a device, where they are known
 abbrev pub WhereKnown : Option (List ℕ) → (List ℕ → Type 0) → Type 0
@@ -43,15 +43,15 @@ BreaksFrame old new = (n : ℕ) × (n ≤ frame_room old.stream) × (new ≡ at 
 
 -- the random bytes' reader failed: at most 128 of them were read
 abbrev pub BreaksWords : Left → Left → Type 0
-BreaksWords old new = TakesMoment old new × (n : ℕ) × (n ≤ 128) × (new.words ≡ drop n old.words)
+BreaksWords old new = TakesMoment old new × (n : ℕ) × (n ≤ words_needed) × (new.words ≡ drop n old.words)
 
 -- the next frame's length was read, and memory ran out for the message
 abbrev pub LacksRoom : Left → Left → Type 0
-LacksRoom old new = (4 ≤ length old.stream) × (announced old.stream ≤ 65536) × (new ≡ at old.moments (drop 4 old.stream) old.words)
+LacksRoom old new = (4 ≤ length old.stream) × (announced old.stream ≤ frame_limit) × (new ≡ at old.moments (drop 4 old.stream) old.words)
 
 -- the accounts can't be read by which the next message is answered, which took its moment and 128 random bytes
 abbrev pub LacksAccounts : Left → Left → Type 0
-LacksAccounts old new = TakesMoment old new × (128 ≤ length old.words) × (new.words ≡ drop 128 old.words)
+LacksAccounts old new = TakesMoment old new × (words_needed ≤ length old.words) × (new.words ≡ drop words_needed old.words)
 
 -- `replies message moment words answer`: whether the responder may answer so; the answer is none where the bytes are no request
 module _ (replies : List ℕ → Micros → List ℕ → Option (List ℕ) → Type 0) where
@@ -61,16 +61,16 @@ module _ (replies : List ℕ → Micros → List ℕ → Option (List ℕ) → T
 
   -- 128 random bytes are there, and with them the message may be answered so
   abbrev pub IsReply : List ℕ → Micros → List ℕ → Option (List ℕ) → Type 0
-  IsReply message moment words answer = (128 ≤ length words) × replies message moment (take 128 words) answer
+  IsReply message moment words answer = (words_needed ≤ length words) × replies message moment (take words_needed words) answer
 
   -- the next frame takes the next moment and 128 random bytes, is answered so, and leaves `new`
   abbrev pub Asks : Left → Option (List ℕ) → Left → Type 0
   Asks old answer new = (message : List ℕ) × (moment : Micros) × (front_of old.stream ≡ Whole message new.stream)
-      × (old.moments ≡ moment ∷ new.moments) × (new.words ≡ drop 128 old.words) × IsReply message moment old.words answer
+      × (old.moments ≡ moment ∷ new.moments) × (new.words ≡ drop words_needed old.words) × IsReply message moment old.words answer
 
   -- the next frame has this reply, which is short enough for a frame
   abbrev pub Step : Left → List ℕ → Left → Type 0
-  Step old reply new = Asks old (Some reply) new × (length reply ≤ 65536)
+  Step old reply new = Asks old (Some reply) new × (length reply ≤ frame_limit)
 
   -- the next frames have these replies, and leave `new`
   abbrev pub Run : Left → List (List ℕ) → Left → Type 0
@@ -87,7 +87,7 @@ module _ (replies : List ℕ → Micros → List ℕ → Option (List ℕ) → T
   -- memory ran out while the responder answered the next message, which took its moment and 128 random bytes
   abbrev pub LacksAnswer : Left → Left → Type 0
   LacksAnswer old new = (message : List ℕ) × (moment : Micros) × (front_of old.stream ≡ Whole message new.stream)
-      × (old.moments ≡ moment ∷ new.moments) × (128 ≤ length old.words) × (new.words ≡ drop 128 old.words) × wants message
+      × (old.moments ≡ moment ∷ new.moments) × (words_needed ≤ length old.words) × (new.words ≡ drop words_needed old.words) × wants message
 
   -- the next frame has a reply, and memory ran out for the reply's frame
   abbrev pub LacksFrame : Left → Left → Type 0
@@ -103,11 +103,11 @@ module _ (replies : List ℕ → Micros → List ℕ → Option (List ℕ) → T
   StopsBy s Read new = BreaksFrame s new ⊎ BreaksWords s new
   StopsBy s Write new = (reply : List ℕ) × Step replies s reply new
   -- Each message takes the next 128 random bytes (RFC 4120, section 7.2.2). Test: `stops_at_the_first_fault`.
-  StopsBy s NoWords new = TakesMoment s new × (length s.words < 128) × (new.words ≡ [])
+  StopsBy s NoWords new = TakesMoment s new × (length s.words < words_needed) × (new.words ≡ [])
   -- Each message takes the next moment, before its random bytes (RFC 4120, section 7.2.2). Test: `stops_at_the_first_fault`.
   StopsBy s NoMoment new = (message : List ℕ) × (rest : List ℕ) × (front_of s.stream ≡ Whole message rest) × (s.moments ≡ []) × (new ≡ at [] rest s.words)
   -- A reply of more than 65,536 bytes isn't written (RFC 4120, section 7.2.2). Test: `long_replies`.
-  StopsBy s ReplyTooLong new = (reply : List ℕ) × Asks replies s (Some reply) new × (65536 < length reply)
+  StopsBy s ReplyTooLong new = (reply : List ℕ) × Asks replies s (Some reply) new × (frame_limit < length reply)
   StopsBy s Memory new = LacksRoom s new ⊎ LacksAnswer s new ⊎ LacksFrame s new
   -- Where the accounts can't be read, the run ends, and the message gets no reply. Test: `stops_without_accounts`.
   StopsBy s Accounts new = LacksAccounts s new

@@ -5,7 +5,7 @@ use Rattle.krb_time.specs.Units.{Micros}
 use Rattle.byte_streams.specs.Counting.{one_more}
 use Rattle.krb_frames.specs.declared.fault.ServeFault.{ServeFault}
 use Rattle.krb_frames.specs.declared.fault.ServeFault.TheVariants.{Truncated, FrameTooLong, NoRequest, Read, Write, NoWords, ReplyTooLong, Memory, Accounts}
-use Rattle.krb_frames.specs.Frames.{Bad, announced, frame_room, front_of, framed}
+use Rattle.krb_frames.specs.Frames.{Bad, announced, frame_room, front_of, framed, frame_limit, words_needed}
 use Rattle.krb_frames.specs.Serving.{IsReply, MayRefuse}
 
 -- a reader's count of failures after a fault
@@ -40,7 +40,7 @@ abbrev pub IsFrontFault : List ℕ → Option (List ℕ) → ServeFault → Type
 IsFrontFault stream left Truncated = (front_of stream ≡ Bad Truncated) × (left ≡ Some [])
 IsFrontFault stream left FrameTooLong = (front_of stream ≡ Bad FrameTooLong) × (left ≡ Some (drop 4 stream))
 IsFrontFault stream left Read = IsBroken stream left (frame_room stream)
-IsFrontFault stream left Memory = (4 ≤ length stream) × (announced stream ≤ 65536) × (left ≡ Some (drop 4 stream))
+IsFrontFault stream left Memory = (4 ≤ length stream) × (announced stream ≤ frame_limit) × (left ≡ Some (drop 4 stream))
 IsFrontFault stream left _ = ⊥
 
 -- a message of this size was not read by this fault, and these bytes are left
@@ -52,8 +52,8 @@ IsMessageStop stream left size _ = ⊥
 
 -- a message got no random bytes by this fault, and these are left
 abbrev pub IsWordsStop : List ℕ → Option (List ℕ) → ServeFault → Type 0
-IsWordsStop words left NoWords = (length words < 128) × (left ≡ Some [])
-IsWordsStop words left Read = IsBroken words left 128
+IsWordsStop words left NoWords = (length words < words_needed) × (left ≡ Some [])
+IsWordsStop words left Read = IsBroken words left words_needed
 IsWordsStop words left _ = ⊥
 
 -- the faults that reading a message may have
@@ -103,25 +103,25 @@ IsWrittenPart frame old new _ = ⊥
 module _ (replies : List ℕ → Micros → List ℕ → Option (List ℕ) → Type 0) where
   -- a message was answered: its reply was written in a frame, and 128 random bytes were taken
   abbrev pub IsAnswered : List ℕ → Micros → List ℕ → Option (List ℕ) → Option (List ℕ) → Option (List ℕ) → Type 0
-  IsAnswered message moment words old new left = (reply : List ℕ) × IsReply replies message moment words (Some reply) × (length reply ≤ 65536)
-      × Appends old new (framed reply) × (left ≡ Some (drop 128 words))
+  IsAnswered message moment words old new left = (reply : List ℕ) × IsReply replies message moment words (Some reply) × (length reply ≤ frame_limit)
+      × Appends old new (framed reply) × (left ≡ Some (drop words_needed words))
 
 module _ (replies : List ℕ → Micros → List ℕ → Option (List ℕ) → Type 0) (wants : List ℕ → Type 0) where
   -- memory ran out: for the answer, if the responder may need it for the message, or for the frame of a reply
   abbrev pub LacksMemory : List ℕ → Micros → List ℕ → Type 0
-  LacksMemory message moment words = wants message ⊎ ((reply : List ℕ) × IsReply replies message moment words (Some reply) × (length reply ≤ 65536))
+  LacksMemory message moment words = wants message ⊎ ((reply : List ℕ) × IsReply replies message moment words (Some reply) × (length reply ≤ frame_limit))
 
   -- a message was not answered by this fault; so much of its reply was written, and these random bytes are left
   abbrev pub IsStepFault : List ℕ → Micros → List ℕ → Option (List ℕ) → Option (List ℕ) → Option (List ℕ) → ServeFault → Type 0
-  IsStepFault message moment words old new left NoWords = (length words < 128) × Keeps old new × (left ≡ Some [])
-  IsStepFault message moment words old new left NoRequest = IsReply replies message moment words None × Keeps old new × (left ≡ Some (drop 128 words))
+  IsStepFault message moment words old new left NoWords = (length words < words_needed) × Keeps old new × (left ≡ Some [])
+  IsStepFault message moment words old new left NoRequest = IsReply replies message moment words None × Keeps old new × (left ≡ Some (drop words_needed words))
   IsStepFault message moment words old new left ReplyTooLong =
-      (reply : List ℕ) × IsReply replies message moment words (Some reply) × (65536 < length reply) × Keeps old new × (left ≡ Some (drop 128 words))
+      (reply : List ℕ) × IsReply replies message moment words (Some reply) × (frame_limit < length reply) × Keeps old new × (left ≡ Some (drop words_needed words))
   IsStepFault message moment words old new left Write =
-      (reply : List ℕ) × IsReply replies message moment words (Some reply) × (length reply ≤ 65536) × (n : ℕ) × Appends old new (take n (framed reply))
-      × (left ≡ Some (drop 128 words))
-  IsStepFault message moment words old new left Read = IsBroken words left 128 × Keeps old new
+      (reply : List ℕ) × IsReply replies message moment words (Some reply) × (length reply ≤ frame_limit) × (n : ℕ) × Appends old new (take n (framed reply))
+      × (left ≡ Some (drop words_needed words))
+  IsStepFault message moment words old new left Read = IsBroken words left words_needed × Keeps old new
   IsStepFault message moment words old new left Memory =
-      (128 ≤ length words) × LacksMemory message moment words × Keeps old new × (left ≡ Some (drop 128 words))
-  IsStepFault message moment words old new left Accounts = (128 ≤ length words) × Keeps old new × (left ≡ Some (drop 128 words))
+      (words_needed ≤ length words) × LacksMemory message moment words × Keeps old new × (left ≡ Some (drop words_needed words))
+  IsStepFault message moment words old new left Accounts = (words_needed ≤ length words) × Keeps old new × (left ≡ Some (drop words_needed words))
   IsStepFault message moment words old new left _ = ⊥

@@ -1,7 +1,7 @@
 //! Reads one frame, answers its message and writes the reply's frame.
 ghost use Rattle.std.specs.Prelude.{◌≡◌, ℕ, ◌<◌, ◌≤◌, List, length, take, drop, Some, None, IfOk, IfErr, MatchOption, MatchResult};
 ghost use Rattle.std.specs.Io.KnownBytes.{Appends};
-ghost use Rattle.krb_frames.specs.Frames.{front_of, framed};
+ghost use Rattle.krb_frames.specs.Frames.{front_of, framed, frame_limit, words_needed};
 ghost use Rattle.krb_frames.specs.Frames.Front.{Ended, Whole};
 ghost use Rattle.krb_frames.specs.Serving.{IsReply, WhereKnown};
 ghost use Rattle.krb_frames.specs.Steps.{IsFilled, IsTaken, IsBroken, IsMessageFault, IsMessageStop, IsWordsFault, IsWordsStop, IsAnswerFault, IsAnswered, IsFrontFault, IsReadFault, IsRefusal, IsStepFault, IsWrittenPart, after_read_fault, after_write_fault};
@@ -84,9 +84,9 @@ pub fn read_frame<R: Source>(alloc: Global, reader: &mut R) -> Result<Option<Vec
 // Reads the 128 random bytes of one message.
 fn read_words<K: Source>(words_reader: &mut K) -> Result<[u8; WORDS_NEEDED], ServeFault>
     ensures front { WhereKnown (K.left words_reader.old) (λ words. MatchResult result
-        (λ taken. (taken ≡ take 128 words) × (128 ≤ length words) × (K.left words_reader.new ≡ Some (drop 128 words)))
+        (λ taken. (taken ≡ take words_needed words) × (words_needed ≤ length words) × (K.left words_reader.new ≡ Some (drop words_needed words)))
         (IsWordsStop words (K.left words_reader.new))) }
-    ensures size { IfOk result (λ taken. length taken ≡ 128) }
+    ensures size { IfOk result (λ taken. length taken ≡ words_needed) }
     ensures faults { IfErr result IsWordsFault }
     ensures count { MatchResult result (λ _. K.failed words_reader.new ≡ K.failed words_reader.old)
         (λ fault. K.failed words_reader.new ≡ after_read_fault (K.failed words_reader.old) fault) }
@@ -101,7 +101,7 @@ fn read_words<K: Source>(words_reader: &mut K) -> Result<[u8; WORDS_NEEDED], Ser
 
 // Makes the frame of a reply: its length in four octets, and its bytes.
 fn frame_of(alloc: Global, reply: &[u8]) -> Result<Vec<u8>, AllocError>
-    requires { length reply.now ≤ 65536 }
+    requires { length reply.now ≤ frame_limit }
     ensures { IfOk result (λ frame. frame.items ≡ framed reply.now) }
 {
     let mut prefix = [0u8; 4];
@@ -114,7 +114,7 @@ fn frame_of(alloc: Global, reply: &[u8]) -> Result<Vec<u8>, AllocError>
 
 /// Writes the frame of a message, in one call where the writer takes all. The faults are `Write` and `Memory`.
 pub fn write_frame<W: Sink>(alloc: Global, writer: &mut W, reply: &[u8]) -> Result<(), ServeFault>
-    requires { length reply.now ≤ 65536 }
+    requires { length reply.now ≤ frame_limit }
     ensures written { MatchResult result (λ _. Appends (W.written writer.old) (W.written writer.new) (framed reply.now))
         (IsWrittenPart (framed reply.now) (W.written writer.old) (W.written writer.new)) }
     ensures count { MatchResult result (λ _. W.failed writer.new ≡ W.failed writer.old)

@@ -1,5 +1,6 @@
 //! A responder: it replies to messages.
 ghost use Rattle.std.specs.Prelude.{◌≡◌, ℕ, List, Option, None, Some, IfErr, MatchResult, length};
+ghost use Rattle.krb_frames.specs.Frames.{words_needed};
 
 use crate::AnswerRefusal;
 use krb_time::Moment;
@@ -27,7 +28,7 @@ pub trait Responder {
         moment: Moment,
         words: &[u8],
     ) -> Result<Vec<u8>, AnswerRefusal>
-        requires { length words.now ≡ 128 }
+        requires { length words.now ≡ words_needed }
         ensures reply { MatchResult result (λ reply. replies self.now message.now moment words.now (Some reply.items))
             (λ refusal. refusal ≡ AnswerRefusal.Unreadable → replies self.now message.now moment words.now None) }
         ensures memory { IfErr result (λ refusal. refusal ≡ AnswerRefusal.Memory → may_want_memory self.now message.now) }

@@ -1,6 +1,7 @@
 //! Realms.
-ghost use Rattle.std.specs.Prelude.{◌≡◌, ◌≤◌, ◌<◌, ◌^◌, true, ℕ, List, Ok, Err, Some, None, OnOk, OnErr, IfOk, IfErr, MatchResult, length, ◌⊎◌};
+ghost use Rattle.std.specs.Prelude.{◌≡◌, ◌<◌, ◌^◌, true, ℕ, List, Ok, Err, Some, None, OnOk, OnErr, IfOk, IfErr, MatchResult, length, ◌⊎◌};
 ghost use Rattle.std.specs.FinMap as finite;
+ghost use Rattle.krb_types.specs.RandomBytes.{AreEnoughForReply};
 ghost use Rattle.aes_cts.specs.Bytes.{IsBytes};
 ghost use Rattle.krb_accounts.specs.Names.{parts};
 ghost use Rattle.krb_accounts.specs.Refusal.{IsMemoryAside};
@@ -128,7 +129,7 @@ impl Realm {
     /// There is a reply to each request at each moment, by `laws::one_reply` exactly one. It does nothing when it runs. `words`: random
     /// bytes, 128 or more.
     pub fn has_reply<K: KeyFunctions>(&self, message: &[u8], moment: Moment, words: &[u8], keys: &K)
-        requires { 128 ≤ length words.now }
+        requires { AreEnoughForReply words.now }
         ensures { HasSome (Replies (call_to self.now moment words.now) (pkinit_rows self.now.trust (K.functions keys.now)) message.now) }
     {
         self.are_keyed();
@@ -262,7 +263,7 @@ impl Realm {
         words: &[u8],
         keys: &K,
     ) -> Result<Vec<u8>, AnswerRefusal>
-        requires { 128 ≤ length words.now }
+        requires { AreEnoughForReply words.now }
         ensures answer { IsAnswer (Replies (call_to self.now moment words.now) (pkinit_rows self.now.trust (K.functions keys.now)) message.now) result }
         ensures memory { IfErr result (λ refusal. refusal ≡ AnswerRefusal.Memory → BeginsRequest message.now) }
     {

@@ -1,5 +1,6 @@
 -- The premises on a call to a realm: a moment that KerberosTime has, enough random bytes, and keys of their suites' length.
-use Rattle.std.specs.Prelude.{◌≡◌, ◌≤◌, List, length, Some}
+use Rattle.std.specs.Prelude.{◌≡◌, List, length, Some}
+use Rattle.krb_types.specs.RandomBytes.{AreEnoughForReply}
 use Rattle.picky_asn1.specs.Bytes.{Bytes}
 use Rattle.aes_cts.specs.Bytes.{IsBytes}
 use Rattle.krb_time.specs.Moment.{IsMoment}
@@ -20,6 +21,6 @@ AreKeyed look = (name : List Bytes) (account : AccountRecord) → look name ≡ 
 -- the call has a moment of the years 0 to 9999, 128 random bytes, and accounts whose keys are of their suites
 pub record IsCall (call : CallRecord) : Type 0 where
   pub in_time : IsMoment call.moment
-  pub enough : 128 ≤ length call.words
+  pub enough : AreEnoughForReply call.words
   pub bytes : IsBytes call.words
   pub keyed : AreKeyed call.look

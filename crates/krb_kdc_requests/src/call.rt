@@ -1,5 +1,6 @@
 //! A call to a realm: what it judges a request by.
-ghost use Rattle.std.specs.Prelude.{◌≡◌, ◌≤◌};
+ghost use Rattle.std.specs.Prelude.{◌≡◌};
+ghost use Rattle.krb_time.specs.Skew.{IsWithinDay};
 
 use krb_accounts::{Accounts, Settings};
 use krb_time::{MICROSECONDS_IN_SECOND, Moment};
@@ -26,7 +27,7 @@ impl Call<'_> {
     /// The realm's clock skew in microseconds, a day at most.
     pub fn skew(&self) -> u64
         ensures value { result ≡ skew_of (call_of self.now) }
-        ensures most { result ≤ 86400000000 }
+        ensures most { IsWithinDay result }
     {
         self.settings.skew() * MICROSECONDS_IN_SECOND
     }

@@ -1,6 +1,7 @@
 //! The fields of a KDC-REQ, and the rows that AS and TGS requests share.
-ghost use Rattle.std.specs.Prelude.{◌≡◌, ◌≤◌, length, IfOk};
+ghost use Rattle.std.specs.Prelude.{◌≡◌, IfOk};
 ghost use Rattle.std.specs.Option.{option_copied, option_map};
+ghost use Rattle.krb_types.specs.RandomBytes.{AreEnoughForReply};
 ghost use Rattle.krb_accounts.specs.Accounts.{look_in};
 ghost use Rattle.krb_kdc_requests.specs.Requests.{account_of, header_rows, client_of, padata_in, has_refused_option, is_ended, is_postdated, lasting, service_of};
 ghost use Rattle.krb_tickets.specs.Parts.{session_key_of};
@@ -141,7 +142,7 @@ pub fn session_key(
     suite: CipherSuite,
     words: &[u8],
 ) -> Result<OctetStringAsn1, AllocError>
-    requires { 128 ≤ length words.now }
+    requires { AreEnoughForReply words.now }
     ensures { IfOk result (λ key. key ≡ session_key_of suite words.now) }
 {
     key_at(alloc, suite, words, SESSION_SEED)

@@ -2,6 +2,7 @@
 ghost use Rattle.std.specs.Prelude.{◌≡◌, ◌≤◌, length, IfOk};
 ghost use Rattle.std.specs.List.{find};
 ghost use Rattle.std.specs.Option.{option_map};
+ghost use Rattle.krb_time.specs.Skew.{IsWithinDay};
 ghost use Rattle.krb_types.specs.Refusals.{IsJudged};
 ghost use Rattle.krb_ap_requests.specs.ApTable.{enc_part_in, presented};
 ghost use Rattle.krb_service.specs.ApReply.{HasSessionKey};
@@ -27,7 +28,7 @@ pub(crate) fn receive(
     message: &[u8],
 ) -> Result<Presented, AdmitRefusal>
     requires entries { 1 ≤ length entries.now }
-    requires skew { skew ≤ 86400000000 }
+    requires skew { IsWithinDay skew }
     ensures received { ReceivesByKeytab entries.now skew moment message.now result }
     ensures keyed { IfOk result HasSessionKey }
 {
@@ -48,7 +49,7 @@ fn judge(
     request: &ApReqInner,
 ) -> Result<Presented, Refusal>
     requires entries { 1 ≤ length entries.now }
-    requires skew { skew ≤ 86400000000 }
+    requires skew { IsWithinDay skew }
     ensures { IsJudged (presented (chosen entries.now (enc_part_in request.now)) skew moment request.now).gives result }
 {
     chosen(entries, enc_part_in(request)).judge(alloc, skew, moment, request)

@@ -1,5 +1,6 @@
 //! What holds of every service of a keytab.
 ghost use Rattle.std.specs.Prelude.{◌≡◌, ◌≤◌, ◌+◌, ◌++◌, ℕ, true, false, List, ◌∷◌, Result, Ok, Err, length, ◌↔◌};
+ghost use Rattle.krb_types.specs.RandomBytes.{AreEnoughForApReply};
 ghost use Rattle.aes_cts.specs.Bytes.{IsBytes};
 ghost use Rattle.decision_tables.specs.Some.{HasSome};
 ghost use Rattle.krb_messages.specs.Messages.{IsApReq};
@@ -45,7 +46,7 @@ pub fn one_outcome()
 /// contract is the law.
 pub fn has_outcome()
     ensures { (service : KeytabServiceRecord) (moment : ℕ) (admitted : List PairRecord) (bytes words : List ℕ)
-        → 16 ≤ length words → IsBytes words → HasSome (remembering_by_keytab service moment admitted bytes words).gives }
+        → AreEnoughForApReply words → IsBytes words → HasSome (remembering_by_keytab service moment admitted bytes words).gives }
 {}
 
 /// Over any list of calls, with any entries at each of them, no client is admitted twice with one authenticator time: each admission adds

@@ -1,7 +1,8 @@
 //! Services of keytabs.
-ghost use Rattle.std.specs.Prelude.{◌≡◌, ◌≤◌, ◌⊎◌, List, length, Ok, Err, MatchResult, OnErr, OnOk, max};
+ghost use Rattle.std.specs.Prelude.{◌≡◌, ◌⊎◌, List, Ok, Err, MatchResult, OnErr, OnOk, max};
 ghost use Rattle.std.specs.List.{filter};
 ghost use Rattle.std.specs.Set.{distinct_count};
+ghost use Rattle.krb_types.specs.RandomBytes.{AreEnoughForApReply};
 ghost use Rattle.krb_accounts.specs.Names.{parts};
 ghost use Rattle.krb_service.specs.Pair.{PairRecord, is_recent, is_same_pair};
 ghost use Rattle.krb_service.specs.RememberingService.{IsStep};
@@ -128,7 +129,7 @@ impl KeytabService {
         moment: Moment,
         words: &[u8],
     ) -> Result<Admission, AdmitRefusal>
-        requires { 16 ≤ length words.now }
+        requires { AreEnoughForApReply words.now }
         ensures greatest { self.new.seen.greatest ≡ max self.old.seen.greatest moment }
         ensures skew { self.new.seen.skew ≡ self.old.seen.skew }
         ensures rest { self.new ≡ record self.old { seen = self.new.seen } }

@@ -1,6 +1,6 @@
 //! The arguments of a login.
 
-use krb_accounts::{LIFETIME_LIMIT, are_components};
+use krb_accounts::{LIFETIME_LIMIT, USUAL_LIFETIME, are_components};
 use krb_client::{AskRefusal, Client};
 use krb_commands::{Given, Stop, given_of, principal_in, usage};
 use krb_crypto::CipherSuite;
@@ -11,9 +11,6 @@ use std::alloc::Global;
 
 /// The options.
 const OPTIONS: [&str; 10] = ["-k", "-p", "-C", "-K", "-A", "-c", "-s", "-l", "-r", "-t"];
-
-/// The lifetime that is requested for tickets, in seconds, if none is given: ten hours.
-const USUAL_LIFETIME: u64 = 36_000;
 
 /// The random octets, if no file is given.
 const WORDS: &str = "/dev/urandom";

@@ -41,7 +41,7 @@ fn log_in_by_certificate(rt: &HostRuntime, login: &Login<'_>, own: &Certified) -
     log_in_with(rt, &mut kdc, login, &granting)
 }
 
-// Gets the further tickets, and writes the cache.
+// Gets the service tickets, and writes the cache.
 fn log_in_with(
     rt: &HostRuntime,
     kdc: &mut Kdc<'_>,

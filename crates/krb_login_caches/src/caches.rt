@@ -8,7 +8,7 @@ use krb_credential_caches::{CachedCredential, CredentialCache};
 use result_pairs::both;
 use std::alloc::{AllocError, Global};
 
-/// The cache of a client, with its ticket-granting ticket and its further tickets. Fails only if memory runs out.
+/// The cache of a client, with its ticket-granting ticket and its service tickets. Fails only if memory runs out.
 pub fn cache_of(
     alloc: Global,
     client: &Client,

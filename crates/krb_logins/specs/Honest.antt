@@ -1,5 +1,6 @@
 -- Which logins are honest, and what they end with.
 use Rattle.std.specs.Prelude.{◌≡◌, ◌≤◌, ◌<◌, ◌+◌, ◌*◌, ℕ, false, max, min, length, Some, Result, Ok, Err}
+use Rattle.krb_types.specs.RandomBytes.{AreEnoughForApReply, AreEnoughForReply, AreEnoughForRequest}
 use Rattle.picky_asn1.specs.Bytes.{Bytes}
 use Rattle.asn1_leaves.specs.GeneralizedTime.{seconds_of}
 use Rattle.krb_time.specs.Units.{Micros}
@@ -29,12 +30,12 @@ pub record AreParties (client : ClientRecord) (service : ServiceRecord) : Type 0
 
 -- the random bytes that the calls of a login ask for
 pub record AreEnough (login : LoginRecord) : Type 0 where
-  pub client_as : 96 ≤ length login.words_as
-  pub client_tgs : 96 ≤ length login.words_tgs
-  pub client_ap : 96 ≤ length login.words_ap
-  pub realm_as : 128 ≤ length login.realm_words_as
-  pub realm_tgs : 128 ≤ length login.realm_words_tgs
-  pub service : 16 ≤ length login.service_words
+  pub client_as : AreEnoughForRequest login.words_as
+  pub client_tgs : AreEnoughForRequest login.words_tgs
+  pub client_ap : AreEnoughForRequest login.words_ap
+  pub realm_as : AreEnoughForReply login.realm_words_as
+  pub realm_tgs : AreEnoughForReply login.realm_words_tgs
+  pub service : AreEnoughForApReply login.service_words
 
 -- client, realm and service are of one realm, and the service is the one that is asked for
 pub record AreNamed (asking : ClientRecord) (realm : RealmRecord) (asked_for : ServiceRecord) (login : LoginRecord) : Type 0 where

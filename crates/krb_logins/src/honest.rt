@@ -1,5 +1,6 @@
 //! Whether a login is honest: the premise of its law, judged by what the parties hold.
-ghost use Rattle.std.specs.Prelude.{◌≡◌, ◌≤◌, ◌<◌, ◌*◌, false, IsTrue, Some};
+ghost use Rattle.std.specs.Prelude.{◌≡◌, ◌<◌, ◌*◌, false, IsTrue, Some};
+ghost use Rattle.krb_time.specs.Skew.{IsWithinDay};
 ghost use Rattle.asn1_leaves.specs.GeneralizedTime.{seconds_of};
 ghost use Rattle.krb_accounts.specs.Account.{AccountRecord};
 ghost use Rattle.krb_accounts.specs.Accounts.{look_in};
@@ -116,7 +117,7 @@ fn has_key(account: &Account, key: &Key) -> bool
 
 // Whether the moments of a login and the service's clock lie in one span of the skew, in microseconds.
 fn are_near(skew: u64, service: &Service, input: &LoginInput<'_>) -> bool
-    requires { skew ≤ 86400000000 }
+    requires { IsWithinDay skew }
     ensures { IsTrue result → AreNear skew (held_by service.now) (login_of input.now) }
 {
     let at = &input.moments;
@@ -140,7 +141,7 @@ fn first_of(at: &LoginMoments) -> Moment {
 
 // Whether a moment lies in the span of so many microseconds that begins there.
 fn is_within(start: Moment, span: u64, moment: Moment) -> bool
-    requires { span ≤ 86400000000 }
+    requires { IsWithinDay span }
     ensures { IsTrue result → IsWithin start span moment }
 {
     let (start, moment) = (start.micros(), moment.micros());

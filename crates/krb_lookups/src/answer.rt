@@ -1,6 +1,7 @@
 //! Answers from accounts that are looked up.
-ghost use Rattle.std.specs.Prelude.{◌≤◌, IfErr, IfOk, OnOk, length};
+ghost use Rattle.std.specs.Prelude.{IfErr, IfOk, OnOk};
 ghost use Rattle.std.specs.Option.{option_copied};
+ghost use Rattle.krb_types.specs.RandomBytes.{AreEnoughForReply};
 ghost use Rattle.krb_accounts.specs.Accounts.{Look};
 ghost use Rattle.krb_kdc_requests.specs.Requests.{body_of, client_of, service_of};
 ghost use Rattle.krb_types.specs.TicketGranting.{krbtgt_of};
@@ -41,7 +42,7 @@ pub fn answer_by<L: Lookup, P: Pkinit>(
     pkinit: &P,
     message: &[u8],
 ) -> Result<Vec<u8>, LookupRefusal>
-    requires { 128 ≤ length call.now.words.now }
+    requires { AreEnoughForReply call.now.words.now }
     ensures answer { (all : Look) → L.holds lookup.now all → IsAnswerBy (Replies (call_with call.now all) (P.rows pkinit.now) message.now) result }
     ensures refusal { IfErr result (MayRefuse (L.may_fail lookup.now) message.now) }
 {

@@ -1,5 +1,6 @@
 //! What holds of every realm whose accounts are looked up.
-ghost use Rattle.std.specs.Prelude.{◌≤◌, ◌<◌, ◌^◌, length};
+ghost use Rattle.std.specs.Prelude.{◌<◌, ◌^◌, length};
+ghost use Rattle.krb_types.specs.RandomBytes.{AreEnoughForReply};
 ghost use Rattle.aes_cts.specs.Bytes.{IsBytes};
 ghost use Rattle.decision_tables.specs.Some.{HasSome};
 ghost use Rattle.krb_accounts.specs.Accounts.{Look};
@@ -12,7 +13,7 @@ use pkinit_interface::Pkinit;
 
 /// There is a reply to each message, if each account's key has its suite's length. It does nothing when it runs: its contract is the law.
 pub fn has_reply<P: Pkinit>(call: &LookupCall<'_>, pkinit: &P, message: &[u8])
-    requires { 128 ≤ length call.now.words.now }
+    requires { AreEnoughForReply call.now.words.now }
     ensures { (all : Look) → AreKeyed all → HasSome (Replies (call_with call.now all) (P.rows pkinit.now) message.now) }
 {
     krb_replies::laws::has_reply(pkinit);

@@ -6,6 +6,7 @@ use Rattle.krb_time.specs.Units.{Seconds}
 use Rattle.krb_accounts.specs.Account.{AccountRecord}
 use Rattle.krb_accounts.specs.Accounts.{AccountMap}
 use Rattle.krb_accounts.specs.Passwords.{password_account, password_salt}
+use Rattle.krb_accounts.specs.Settings.{most_lifetime, most_skew}
 use Rattle.krb_accounts.specs.declared.refusal.RealmRefusal.{RealmRefusal}
 use Rattle.krb_accounts.specs.declared.refusal.RealmRefusal.TheVariants.{BadSetting}
 use Rattle.krb_kdc.specs.Realm.{RealmState, making, made, adding, adding_by_password, first_key}
@@ -19,7 +20,7 @@ use Rattle.krb_program.specs.declared.fault.KdcFault.TheVariants.{Account, Realm
 abbrev pub settings_of : Seconds → Seconds → Result SettingsState KdcFault
 settings_of skew lifetime =
     -- The clock skew is at most 86,400 seconds, and the lifetime from 1 to 31,536,000. Test: `skew is 100000`, `lifetime is 0`.
-    if nat_le skew 86400 && nat_le 1 lifetime && nat_le lifetime 31536000 then Ok (settings_by skew lifetime None None)
+    if nat_le skew most_skew && nat_le 1 lifetime && nat_le lifetime most_lifetime then Ok (settings_by skew lifetime None None)
     else Err (Realm BadSetting)
 
 -- the result of a step on the realm itself, whose refusal is a fault of the realm
@@ -37,7 +38,7 @@ abbrev pub adding_secret : AccountMap → List (List ℕ) → CipherSuite → Wr
 -- A name has one account at most, and `krbtgt` with the realm's name has one from the start. Test: `name ["a"] is account 1's, on line 7`,
 -- `name ["krbtgt", "R"] is the ticket-granting service's, whose key is the realm's`.
 adding_secret accounts name suite (password _) = adding_by_password accounts name
--- A key has as many octets as the keys of its suite. Test: `key has 64 hexadecimal digits`, `key has 62 hexadecimal digits`.
+-- A key has as many octets as the keys of its suite. Test: `key has 62 hexadecimal digits`.
 adding_secret accounts name suite (key bytes) = adding accounts name suite bytes
 
 -- whether an account of a file is added to the realm

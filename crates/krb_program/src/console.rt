@@ -45,7 +45,7 @@ fn serve_files<F: Files + Clock + AllocGlobal, R: Source, W: Sink>(
     Ok(run_settings(rt.alloc(), &settings, moment, &mut words, reader, writer))
 }
 
-// The moment of this text.
+// The moment that the text names. For `now` the clock is read.
 fn moment_of<C: Clock>(clock: &C, text: &str) -> Option<Moment> {
     if text == "now" {
         now(clock)

@@ -5,6 +5,7 @@ use crate::outcome::{Outcome, Stop};
 use crate::serving::serve_at;
 use byte_streams::{Sink, Source, Watched};
 use key_functions::NoKeys;
+use krb_accounts::{USUAL_LIFETIME, USUAL_SKEW};
 use krb_crypto::CipherSuite;
 use krb_frames::ServeFault;
 use krb_kdc::{Answering, Realm, Settings};
@@ -13,12 +14,6 @@ use std::alloc::Global;
 use std::env;
 use std::io::{self, BufReader, ErrorKind};
 use std::process::ExitCode;
-
-/// How many seconds clocks may differ in the stored run.
-const SKEW: u64 = 300;
-
-/// How many seconds a ticket of the stored run lasts at most.
-const LIFETIME: u64 = 36_000;
 
 /// The moment of the stored run.
 const MOMENT: &[u8; 15] = b"20000101000000Z";
@@ -80,7 +75,7 @@ fn serve_stored<R: Source, W: Sink>(
 ) -> Result<u64, Stop> {
     // Its name, key, settings and moment are a realm's, so memory is the only refusal.
     let memory = Stop::Fault(ServeFault::Memory);
-    let Ok(settings) = Settings::new(alloc, SKEW, LIFETIME, None, None) else {
+    let Ok(settings) = Settings::new(alloc, USUAL_SKEW, USUAL_LIFETIME, None, None) else {
         return Err(memory);
     };
     let Ok(realm) = Realm::new(

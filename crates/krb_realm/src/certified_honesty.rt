@@ -1,5 +1,6 @@
 //! Whether a login by certificate is honest: the premise of its law, judged by what the parties hold.
-ghost use Rattle.std.specs.Prelude.{◌≤◌, IsTrue, length};
+ghost use Rattle.std.specs.Prelude.{IsTrue};
+ghost use Rattle.krb_types.specs.RandomBytes.{AreEnoughForRequest};
 ghost use Rattle.krb_logins.specs.Authenticated.{first_body};
 ghost use Rattle.krb_logins.specs.Input.{held_by, login_of, realm_of};
 ghost use Rattle.krb_logins.specs.Parties.{call_at};
@@ -32,7 +33,7 @@ pub fn is_certified_login_honest<C: KeyFunctions, R: KeyFunctions>(
     service: &Service,
     input: &LoginInput<'_>,
 ) -> bool
-    requires { 96 ≤ length input.now.words_as.now }
+    requires { AreEnoughForRequest input.now.words_as.now }
     ensures { IsTrue result → IsHonestByCertificate client.now own.now.certificate.now own.now.anchor.now (C.functions own.now.keys.now) (realm_of realm.now)
         (trust_of pkinit.now.anchor pkinit.now.certificate) (R.functions pkinit.now.keys.now) service.now (held_by service.now) (login_of input.now) }
 {
@@ -51,7 +52,7 @@ fn has_honest_exchange<C: KeyFunctions, R: KeyFunctions>(
     pkinit: &RealmPkinit<'_, R>,
     input: &LoginInput<'_>,
 ) -> bool
-    requires { 96 ≤ length input.now.words_as.now }
+    requires { AreEnoughForRequest input.now.words_as.now }
     ensures { IsTrue result → IsHonestExchange (C.functions own.now.keys.now) own.now.certificate.now (trust_of pkinit.now.anchor pkinit.now.certificate) (R.functions pkinit.now.keys.now)
         (pkinit_call (call_at (realm_of realm.now) input.now.moments.realm_as input.now.realm_words_as.now) client.now.components (first_body client.now (login_of input.now)))
         (asked_at client.now own.now.anchor.now (nonce_of input.now.words_as.now) input.now.moments.client_as input.now.words_as.now) }

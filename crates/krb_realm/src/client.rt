@@ -1,5 +1,6 @@
 //! Clients.
-ghost use Rattle.std.specs.Prelude.{◌≡◌, ◌≤◌, ◌↔◌, ◌⊎◌, ℕ, List, length, true, false, Ok, Err, IfErr, IfOk, MatchResult};
+ghost use Rattle.std.specs.Prelude.{◌≡◌, ◌↔◌, ◌⊎◌, ℕ, List, true, false, Ok, Err, IfErr, IfOk, MatchResult};
+ghost use Rattle.krb_types.specs.RandomBytes.{AreEnoughForRequest};
 ghost use Rattle.krb_accounts.specs.Names.{AreComponents, IsRealmName, are_components, parts};
 ghost use Rattle.krb_client.specs.Client.{client_of};
 ghost use Rattle.krb_client.specs.Refusals.{IsMemoryAside, IsTaken};
@@ -131,7 +132,7 @@ impl Client {
         words: &[u8],
         keys: &K,
     ) -> Result<(Vec<u8>, AsAsked), AskRefusal>
-        requires { 96 ≤ length words.now }
+        requires { AreEnoughForRequest words.now }
         ensures asks { IfOk result (λ r.
             AsksAs self.now.client (means_of self.now (K.functions keys.now)) (parts service.now) till moment words.now r.0.items) }
         ensures only { IfOk result (λ r. (other : List ℕ)
@@ -177,7 +178,7 @@ impl Client {
         moment: Moment,
         words: &[u8],
     ) -> Result<(Vec<u8>, TgsAsked), AskRefusal>
-        requires { 96 ≤ length words.now }
+        requires { AreEnoughForRequest words.now }
         ensures asks { IfOk result (λ r.
             AsksTgs self.now.client credential.now (parts service.now) till moment words.now r.0.items) }
         ensures only { IfOk result (λ r. (other : List ℕ)
@@ -220,7 +221,7 @@ impl Client {
         moment: Moment,
         words: &[u8],
     ) -> Result<(Vec<u8>, ApAsked), AskRefusal>
-        requires { 96 ≤ length words.now }
+        requires { AreEnoughForRequest words.now }
         ensures asks { IfOk result (λ r.
             AsksAp self.now.client credential.now mutual_required with_subkey moment words.now r.0.items) }
         ensures only { IfOk result (λ r. (other : List ℕ)

@@ -1,5 +1,7 @@
 //! AS exchanges by certificate, judged by what client and realm make of each other's messages.
-ghost use Rattle.std.specs.Prelude.{◌≡◌, ◌≤◌, IfErr, IfOk, IsTrue, Ok, Some, length};
+ghost use Rattle.std.specs.Prelude.{◌≡◌, IfErr, IfOk, IsTrue, Ok, Some, length};
+ghost use Rattle.krb_time.specs.Skew.{IsWithinDay};
+ghost use Rattle.krb_types.specs.RandomBytes.{AreEnoughForRequest};
 ghost use Rattle.asn1_elements.specs.Raw.{Raw};
 ghost use Rattle.krb_kdc_requests.specs.Call.{call_of, pkinit_call};
 ghost use Rattle.pkinit_interface.specs.Calls.{AgreedRecord};
@@ -82,7 +84,7 @@ fn padata_if_honest<C: KeyFunctions, R: KeyFunctions>(
     words: &[u8],
     padata: PaData,
 ) -> Result<PaData, AskRefusal>
-    requires { 96 ≤ length words.now }
+    requires { AreEnoughForRequest words.now }
     ensures same { IfOk result (λ made. made ≡ padata) }
     ensures shown { IfOk result (λ made.
         IsPkinitPadata (C.functions exchange.now.own.now.keys.now) exchange.now.own.now.certificate.now body.now moment words.now padata
@@ -115,7 +117,7 @@ fn is_honest_by<C: KeyFunctions, R: KeyFunctions>(
     words: &[u8],
     padata: &[u8],
 ) -> bool
-    requires { 96 ≤ length words.now }
+    requires { AreEnoughForRequest words.now }
     ensures { IsTrue result
         → IsPkAsReqOf (C.functions exchange.now.own.now.keys.now) exchange.now.own.now.certificate.now body.now moment (agreement_part words.now) padata.now
         → IsHonestExchange (C.functions exchange.now.own.now.keys.now) exchange.now.own.now.certificate.now
@@ -161,7 +163,7 @@ fn has_one_secret<C: KeyFunctions, R: KeyFunctions>(
     asked: &PkinitAsked<'_>,
     padata: &[u8],
 ) -> bool
-    requires near { call.now.skew ≤ 86400000000 }
+    requires near { IsWithinDay call.now.skew }
     requires sized { length asked.now.words.now ≡ 64 }
     ensures { IsTrue result → (agreed : AgreedRecord)
         × (pkinit_table (R.functions pkinit.now.keys.now) (trust_of pkinit.now.anchor pkinit.now.certificate) (calls.call_of call.now) padata.now).gives (Ok agreed)

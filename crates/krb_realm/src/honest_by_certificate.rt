@@ -1,5 +1,6 @@
 //! Whether a login by certificate is honest.
-ghost use Rattle.std.specs.Prelude.{◌≡◌, ◌≤◌, IsTrue, length};
+ghost use Rattle.std.specs.Prelude.{◌≡◌, IsTrue};
+ghost use Rattle.krb_types.specs.RandomBytes.{AreEnoughForRequest};
 ghost use Rattle.picky_asn1.specs.Bytes.{Bytes};
 ghost use Rattle.krb_logins.specs.Input.{login_of};
 ghost use Rattle.krb_realm.specs.Clients.{ByCertificate};
@@ -30,7 +31,7 @@ pub fn is_honest_by_certificate<C: KeyFunctions, R: KeyFunctions>(
     client_keys: &C,
     realm_keys: &R,
 ) -> bool
-    requires { 96 ≤ length input.now.words_as.now }
+    requires { AreEnoughForRequest input.now.words_as.now }
     ensures { IsTrue result → (certificate : Bytes) × (anchor : AnchorRecord) × (client.now.by ≡ ByCertificate certificate anchor)
         × IsHonestByCertificate client.now.client certificate anchor (C.functions client_keys.now) (realm_record realm.now) realm.now.trust (R.functions realm_keys.now)
         service.now (remembered service.now service.now.seen.held) (login_of input.now) }

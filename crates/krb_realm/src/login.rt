@@ -1,5 +1,6 @@
 //! Whole logins.
-ghost use Rattle.std.specs.Prelude.{◌≡◌, ◌≤◌, List, length, Result};
+ghost use Rattle.std.specs.Prelude.{◌≡◌, List, Result};
+ghost use Rattle.krb_types.specs.RandomBytes.{AreEnoughForReply, AreEnoughForRequest};
 ghost use Rattle.picky_asn1.specs.Bytes.{Bytes};
 ghost use Rattle.krb_logins.specs.Input.{login_of};
 ghost use Rattle.krb_logins.specs.Honest.{AreEnough, IsHonestByPassword, IsOneKey};
@@ -245,7 +246,7 @@ fn ask_as<M: Means>(
     means: &M,
     input: &LoginInput<'_>,
 ) -> Result<(Vec<u8>, AsAsked), LoginRefusal>
-    requires { 96 ≤ length input.now.words_as.now }
+    requires { AreEnoughForRequest input.now.words_as.now }
     ensures { AsAsk client.now (M.means means.now) (login_of input.now) result }
 {
     client.is_well_formed();
@@ -266,7 +267,7 @@ fn ask_tgs(
     granting: &Credential,
     input: &LoginInput<'_>,
 ) -> Result<(Vec<u8>, TgsAsked), LoginRefusal>
-    requires { 96 ≤ length input.now.words_tgs.now }
+    requires { AreEnoughForRequest input.now.words_tgs.now }
     ensures { TgsAsk client.now (login_of input.now) granting.now result }
 {
     let moment = input.moments.client_tgs;
@@ -286,7 +287,7 @@ fn answer<R: KeyFunctions>(
     words: &[u8],
     keys: &R,
 ) -> Result<Vec<u8>, LoginRefusal>
-    requires { 128 ≤ length words.now }
+    requires { AreEnoughForReply words.now }
     ensures { Answer (call_at (realm_record realm.now) moment words.now) (realm_rows realm.now (R.functions keys.now)) message.now result }
 {
     realm

@@ -1,6 +1,7 @@
 //! Replies to requests: a ticket, or a KRB-ERROR.
-ghost use Rattle.std.specs.Prelude.{◌≡◌, ◌≤◌, ◌%◌, None, Some, IfOk, length};
+ghost use Rattle.std.specs.Prelude.{◌≡◌, ◌%◌, None, Some, IfOk};
 ghost use Rattle.std.specs.Option.{option_copied, option_map};
+ghost use Rattle.krb_types.specs.RandomBytes.{AreEnoughForReply};
 ghost use Rattle.asn1_leaves.specs.declared.date.GeneralizedTime.{GeneralizedTime};
 ghost use Rattle.krb_accounts.specs.Accounts.{look_in};
 ghost use Rattle.krb_as.specs.AsTable.{as_table};
@@ -35,7 +36,7 @@ pub fn as_reply<P: Pkinit>(
     pkinit: &P,
     request: KdcReq,
 ) -> Result<Vec<u8>, AllocError>
-    requires { 128 ≤ length call.now.words.now }
+    requires { AreEnoughForReply call.now.words.now }
     ensures { IfOk result (λ bytes. (as_reply (call_of call.now) (P.rows pkinit.now)
         (account_of (look_in call.now.accounts.now) (client_of (body_of request)))
         (account_of (look_in call.now.accounts.now) (service_of (body_of request))) request).gives (Some bytes.items)) }
@@ -45,7 +46,7 @@ pub fn as_reply<P: Pkinit>(
 
 /// The reply to a TGS request: a ticket, or the KRB-ERROR with its code (RFC 4120, section 3.3). The request is borrowed below.
 pub fn tgs_reply(alloc: Global, call: &Call<'_>, request: KdcReq) -> Result<Vec<u8>, AllocError>
-    requires { 128 ≤ length call.now.words.now }
+    requires { AreEnoughForReply call.now.words.now }
     ensures { IfOk result (λ bytes. (tgs_reply (call_of call.now) request).gives (Some bytes.items)) }
 {
     tgs_reply_to(alloc, call, &request)
@@ -58,7 +59,7 @@ fn as_reply_to<P: Pkinit>(
     pkinit: &P,
     request: &KdcReq,
 ) -> Result<Vec<u8>, AllocError>
-    requires { 128 ≤ length call.now.words.now }
+    requires { AreEnoughForReply call.now.words.now }
     ensures { IfOk result (λ bytes. (as_reply (call_of call.now) (P.rows pkinit.now)
         (account_of (look_in call.now.accounts.now) (client_of (body_of request.now)))
         (account_of (look_in call.now.accounts.now) (service_of (body_of request.now))) request.now).gives (Some bytes.items)) }
@@ -69,7 +70,7 @@ fn as_reply_to<P: Pkinit>(
 
 // The reply to a borrowed TGS request.
 fn tgs_reply_to(alloc: Global, call: &Call<'_>, request: &KdcReq) -> Result<Vec<u8>, AllocError>
-    requires { 128 ≤ length call.now.words.now }
+    requires { AreEnoughForReply call.now.words.now }
     ensures { IfOk result (λ bytes. (tgs_reply (call_of call.now) request.now).gives (Some bytes.items)) }
 {
     let judged = tgs_judgement(alloc, call, request)?;
@@ -101,7 +102,7 @@ fn as_judgement<P: Pkinit>(
     pkinit: &P,
     request: &KdcReq,
 ) -> Result<Result<Vec<u8>, KdcError>, AllocError>
-    requires { 128 ≤ length call.now.words.now }
+    requires { AreEnoughForReply call.now.words.now }
     ensures { IfOk result (λ judged. IsJudgement (as_table (call_of call.now) (P.rows pkinit.now)
         (account_of (look_in call.now.accounts.now) (client_of (body_of request.now)))
         (account_of (look_in call.now.accounts.now) (service_of (body_of request.now))) request.now).gives
@@ -126,7 +127,7 @@ fn tgs_judgement(
     call: &Call<'_>,
     request: &KdcReq,
 ) -> Result<Result<Vec<u8>, KdcError>, AllocError>
-    requires { 128 ≤ length call.now.words.now }
+    requires { AreEnoughForReply call.now.words.now }
     ensures { IfOk result (λ judged. IsJudgement (tgs_table (call_of call.now) request.now).gives (λ code. None) judged) }
 {
     match judge_tgs(alloc, call, request) {

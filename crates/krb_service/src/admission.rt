@@ -1,6 +1,7 @@
 //! What a service gets of a client that it admits.
 ghost use Rattle.std.specs.Prelude.{◌≡◌, ◌≤◌, false, length, IfOk};
 ghost use Rattle.std.specs.Option.{option_map};
+ghost use Rattle.krb_types.specs.RandomBytes.{AreEnoughForApReply};
 ghost use Rattle.krb_service.specs.Admission.{admission_of, checksum_of, seq_number_of, starttime_of, subkey_of};
 ghost use Rattle.krb_service.specs.ApReply.{HasSessionKey, IsReplyTo, IsReplyWith, random_size};
 
@@ -167,7 +168,7 @@ pub fn reply_to(
     presented: &Presented,
     words: &[u8],
 ) -> Result<Option<Vec<u8>>, AllocError>
-    requires confounder { 16 ≤ length words.now }
+    requires confounder { AreEnoughForApReply words.now }
     requires keyed { HasSessionKey presented.now }
     ensures reply { IfOk result (λ reply. IsReplyTo presented.now words.now (option_map (λ bytes. bytes.items) reply)) }
     ensures unwanted { presented.now.wants_reply ≡ false → result ≡ Ok None }

@@ -1,5 +1,6 @@
 //! What holds of every AP request.
-ghost use Rattle.std.specs.Prelude.{◌≡◌, ◌≤◌, ℕ, List, Ok, Option, length};
+ghost use Rattle.std.specs.Prelude.{◌≡◌, ℕ, List, Ok, Option};
+ghost use Rattle.krb_types.specs.RandomBytes.{AreEnoughForApReply};
 ghost use Rattle.krb_ap_requests.specs.Acceptable.{IsAcceptable, presented_choice};
 ghost use Rattle.krb_service.specs.ApReply.{IsReplyTo};
 ghost use Rattle.krb_ap_requests.specs.ApTable.{presented};
@@ -45,6 +46,6 @@ pub fn has_judgement()
 /// contract is the law.
 pub fn has_reply_to()
     ensures { (entry : EntryRecord) (skew moment : ℕ) (choice : Choice) (bytes words : List ℕ) (x : IsAcceptable entry skew moment choice)
-        → Presents entry.key choice bytes → 16 ≤ length words → IsBytes words
+        → Presents entry.key choice bytes → AreEnoughForApReply words → IsBytes words
         → (reply : Option (List ℕ)) × IsReplyTo (presented_choice entry skew moment choice x) words reply }
 {}

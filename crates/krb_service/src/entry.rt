@@ -1,5 +1,6 @@
 //! Keys of services.
-ghost use Rattle.std.specs.Prelude.{◌≡◌, ◌≤◌, IfOk};
+ghost use Rattle.std.specs.Prelude.{◌≡◌, IfOk};
+ghost use Rattle.krb_time.specs.Skew.{IsWithinDay};
 ghost use Rattle.krb_service.specs.ApReply.{HasSessionKey};
 ghost use Rattle.krb_ap_requests.specs.ApTable.{presented};
 ghost use Rattle.krb_ap_requests.specs.Received.{Receives};
@@ -87,8 +88,8 @@ impl KeytabEntry {
         self.kvno
     }
 
-    /// What bytes present to this service at a moment, up to the time that they tell (RFC 4120, section 3.2.3). The skew
-    /// is in microseconds, a day at most.
+    /// What bytes present to this service at a moment (RFC 4120, section 3.2.3). The skew is in microseconds, a day at most. The
+    /// authenticator's time is read, and not compared with the moment.
     pub fn receive(
         &self,
         alloc: Global,
@@ -96,7 +97,7 @@ impl KeytabEntry {
         moment: Moment,
         message: &[u8],
     ) -> Result<Presented, AdmitRefusal>
-        requires { skew ≤ 86400000000 }
+        requires { IsWithinDay skew }
         ensures received { Receives self.now skew moment message.now result }
         ensures keyed { IfOk result HasSessionKey }
     {
@@ -108,8 +109,8 @@ impl KeytabEntry {
         Ok(judged?)
     }
 
-    /// What a request presents to this service at a moment, up to the time that it tells (RFC 4120, section 3.2.3). The skew is
-    /// in microseconds, a day at most.
+    /// What a request presents to this service at a moment (RFC 4120, section 3.2.3). The skew is in microseconds, a day at most. The
+    /// authenticator's time is read, and not compared with the moment.
     pub fn judge(
         &self,
         alloc: Global,
@@ -117,7 +118,7 @@ impl KeytabEntry {
         moment: Moment,
         request: &ApReqInner,
     ) -> Result<Presented, Refusal>
-        requires { skew ≤ 86400000000 }
+        requires { IsWithinDay skew }
         ensures { IsJudged (presented self.now skew moment request.now).gives result }
     {
         check_recipient(

@@ -4,7 +4,7 @@ ghost use Rattle.asn1_der.specs.Tree.{der};
 ghost use Rattle.krb_crypto.specs.Suites.{cipher_confounder_size};
 ghost use Rattle.krb_encrypted_data.specs.Sealing.{encryption_key};
 ghost use Rattle.krb_service.specs.ApReply.{IsReplyOf, ap_rep_of, ap_rep_part_with, random_size, reply_number, reply_subkey};
-ghost use Rattle.krb_types.specs.RandomBytes.{ap_reply_confounder};
+ghost use Rattle.krb_types.specs.RandomBytes.{ap_reply_confounder, AreEnoughForSubkey};
 ghost use Rattle.krb_messages.specs.Messages.{ap_rep_tree, enc_ap_rep_part_tree};
 
 use krb_constants::key_usages;
@@ -39,7 +39,7 @@ pub fn reply_subkey(
     suite: CipherSuite,
     words: &[u8],
 ) -> Result<OctetStringAsn1, AllocError>
-    requires { 64 ≤ length words.now }
+    requires { AreEnoughForSubkey words.now }
     ensures { IfOk result (λ key. key ≡ reply_subkey suite words.now) }
 {
     key_at(alloc, suite, words, SUBKEY_SEED)
@@ -47,7 +47,7 @@ pub fn reply_subkey(
 
 /// The first sequence number of a reply: of four of the random bytes, from the 16th on, big-endian, 31 bits.
 pub fn reply_number(words: &[u8]) -> u32
-    requires { 64 ≤ length words.now }
+    requires { AreEnoughForSubkey words.now }
     ensures { result ≡ reply_number words.now }
 {
     let mut octets = [0; 4];
@@ -101,7 +101,7 @@ fn part_bytes(
 
 // The subkey with its suite's number.
 fn subkey_of(alloc: Global, suite: CipherSuite, words: &[u8]) -> Result<EncryptionKey, AllocError>
-    requires { 64 ≤ length words.now }
+    requires { AreEnoughForSubkey words.now }
     ensures { IfOk result (λ key. key ≡ encryption_key suite (reply_subkey suite words.now)) }
 {
     let octets = reply_subkey(alloc, suite, words)?;
@@ -110,7 +110,7 @@ fn subkey_of(alloc: Global, suite: CipherSuite, words: &[u8]) -> Result<Encrypti
 
 // The first sequence number.
 fn number_of(alloc: Global, words: &[u8]) -> Result<IntegerAsn1, AllocError>
-    requires { 64 ≤ length words.now }
+    requires { AreEnoughForSubkey words.now }
     ensures { IfOk result (λ number. number ≡ pos (reply_number words.now)) }
 {
     IntegerAsn1::from_u64(alloc, u64::from(reply_number(words)))

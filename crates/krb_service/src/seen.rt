@@ -1,8 +1,9 @@
 //! The replay cache.
-ghost use Rattle.std.specs.Prelude.{◌≡◌, ◌-◌, ◌*◌, ◌≤◌, ◌&&◌, false, max, nat_le, List, [], ◌∷◌, OnOk, OnErr};
+ghost use Rattle.std.specs.Prelude.{◌≡◌, ◌-◌, ◌*◌, ◌&&◌, false, max, nat_le, List, [], ◌∷◌, OnOk, OnErr};
 ghost use Rattle.std.specs.List.{filter};
 ghost use Rattle.std.specs.Set.{distinct_count};
-ghost use Rattle.krb_time.specs.Skew.{is_far};
+ghost use Rattle.krb_accounts.specs.Settings.{IsSkew};
+ghost use Rattle.krb_time.specs.Skew.{is_far, IsWithinDay};
 ghost use Rattle.krb_service.specs.Pair.{PairRecord, is_among, is_same_pair, is_recent};
 ghost use Rattle.krb_service.specs.Seen.{IsWholeSeconds, IsWindow};
 
@@ -25,6 +26,7 @@ pub struct Seen {
 impl Model for Seen {
     ghost use Rattle.std.specs.Prelude.{◌≡◌, ◌≤◌, true};
     ghost use Rattle.std.specs.List.{All};
+    ghost use Rattle.krb_time.specs.Skew.{IsWithinDay};
     ghost use Rattle.krb_service.specs.Pair.{is_recent};
     ghost use Rattle.krb_service.specs.Seen.{IsWholeSeconds, SeenRecord};
 
@@ -32,13 +34,13 @@ impl Model for Seen {
 
     ghost view = { λ s. record { greatest = s.greatest; skew = s.skew; held = s.pairs.keys } };
 
-    ghost invariant = { λ s. (s.skew ≤ 86400000000) × IsWholeSeconds s.skew × All (λ p. is_recent s.skew s.greatest p ≡ true) s.pairs.keys };
+    ghost invariant = { λ s. IsWithinDay s.skew × IsWholeSeconds s.skew × All (λ p. is_recent s.skew s.greatest p ≡ true) s.pairs.keys };
 }
 
 impl Seen {
     /// Nothing seen, at moment 0. The skew is in seconds, a day at most.
     pub fn new(alloc: Global, skew: u64) -> Seen
-        requires { skew ≤ 86400 }
+        requires { IsSkew skew }
         ensures { result ≡ record { greatest = 0; skew = 1000000 * skew; held = [] } }
     {
         let Some(greatest) = Moment::new(0) else {
@@ -73,7 +75,7 @@ impl Seen {
     /// The clock skew in microseconds: whole seconds, a day at most.
     pub fn skew(&self) -> u64
         ensures value { result ≡ self.now.skew }
-        ensures bound { result ≤ 86400000000 }
+        ensures bound { IsWithinDay result }
         ensures whole { IsWholeSeconds result }
     {
         self.skew

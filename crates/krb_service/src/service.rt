@@ -2,6 +2,7 @@
 ghost use Rattle.std.specs.Prelude.{◌≡◌, ◌≤◌, ◌⊎◌, List, length, Ok, Err, MatchResult, max};
 ghost use Rattle.std.specs.List.{filter};
 ghost use Rattle.std.specs.Set.{distinct_count};
+ghost use Rattle.krb_types.specs.RandomBytes.{AreEnoughForApReply};
 ghost use Rattle.krb_accounts.specs.Names.{parts};
 ghost use Rattle.krb_service.specs.Pair.{PairRecord, is_recent, is_same_pair};
 ghost use Rattle.krb_service.specs.Seen.{IsWindow};
@@ -123,7 +124,7 @@ impl Service {
         moment: Moment,
         words: &[u8],
     ) -> Result<Admission, AdmitRefusal>
-        requires { 16 ≤ length words.now }
+        requires { AreEnoughForApReply words.now }
         ensures greatest { self.new.seen.greatest ≡ max self.old.seen.greatest moment }
         ensures skew { self.new.seen.skew ≡ self.old.seen.skew }
         ensures rest { self.new ≡ record self.old { seen = self.new.seen } }

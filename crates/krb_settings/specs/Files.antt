@@ -7,9 +7,13 @@ use Rattle.krb_settings.specs.Written.{WrittenRealm}
 use Rattle.krb_settings.specs.declared.fault.SettingsFault.{SettingsFault}
 use Rattle.krb_settings.specs.declared.fault.SettingsFault.TheVariants.{NotToml, TooLong, Memory}
 
+-- A settings file has so many bytes at most.
+abbrev pub settings_limit : ℕ
+settings_limit = 1048576
+
 -- the bytes are a text of this document
 pub record IsDocument (text : List ℕ) (document : Members) : Type 0 where
-  pub short : length text ≤ 1048576
+  pub short : length text ≤ settings_limit
   pub utf8 : IsUtf8 text
   pub parsed : parse_document text ≡ Some document
 
@@ -20,9 +24,9 @@ IsRealmText text realm = (document : Members) × IsDocument text document × (re
 -- the bytes have no document, and this is why. A text that is too long has no other fault
 abbrev pub IsUnread : List ℕ → SettingsFault → Type 0
 -- A file has at most 1,048,576 bytes. Test: `/dev/zero` of `named_files.txt`.
-IsUnread text TooLong = 1048576 < length text
+IsUnread text TooLong = settings_limit < length text
 -- A file is UTF-8 and TOML 1.0. Test: `invalid UTF-8` of `named_files.txt`, `unclosed string` of `files.txt`.
-IsUnread text (NotToml _) = (length text ≤ 1048576) × ((document : Members) → ¬ IsDocument text document)
+IsUnread text (NotToml _) = (length text ≤ settings_limit) × ((document : Members) → ¬ IsDocument text document)
 IsUnread text _ = ⊥
 
 -- the bytes have this fault. Running out of memory says nothing of them

@@ -80,7 +80,8 @@ ticket_granting call granting ap_req =
     and_then (counting call part) (λ _.
     done (Ok part))))
 
--- the authenticator, which is the ticket's client's, and whose time is near the moment
+-- The authenticator of a TGS request decrypts under the session key, for key usage 7 (RFC 4120, section 7.5.1).
+-- Test: `tgs authenticator wrong usage`.
 abbrev pub authenticated_near : CallRecord → EncTicketPartInner → ApReqInner → Table (Result Authenticated Code)
 authenticated_near call part ap_req =
     and_then (authenticated (key_usage TGS_REQ_PA_DATA_AP_REQ_AUTHENTICATOR) part ap_req.authenticator.0) (λ authenticated.

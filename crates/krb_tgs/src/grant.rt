@@ -1,6 +1,7 @@
 //! Grants a service ticket by the presented ticket.
-ghost use Rattle.std.specs.Prelude.{◌≡◌, ◌≤◌, length, IfOk};
+ghost use Rattle.std.specs.Prelude.{◌≡◌, IfOk};
 ghost use Rattle.std.specs.Option.{is_some, option_copied, option_map};
+ghost use Rattle.krb_types.specs.RandomBytes.{AreEnoughForReply};
 ghost use Rattle.krb_kdc_requests.specs.Call.{call_of};
 ghost use Rattle.krb_kdc_requests.specs.Granting.{IsGranted};
 ghost use Rattle.krb_tickets.specs.Grant.{grant_of};
@@ -43,7 +44,7 @@ pub(crate) fn grant(
     service: &Account,
     body: &KdcReqBody,
 ) -> Result<Vec<u8>, Refusal>
-    requires words { 128 ≤ length call.now.words.now }
+    requires words { AreEnoughForReply call.now.words.now }
     requires key { HasSessionKey opened.now }
     ensures { IsGranted (further (call_of call.now) opened.now.part.now opened.now.authenticated.now service_name.now service.now body.now).gives result }
 {
@@ -138,7 +139,7 @@ fn further_ticket<'a>(
     body: &'a KdcReqBody,
     span: Span,
 ) -> Result<Grant<'a>, AllocError>
-    requires { 128 ≤ length call.now.words.now }
+    requires { AreEnoughForReply call.now.words.now }
     ensures { IfOk result (λ grant. grant_of grant ≡ further_ticket (call_of call.now) part.now service_name.now suite body.now span) }
 {
     let session = session_key(alloc, suite, call.words)?;

@@ -1,5 +1,6 @@
 //! Judges a TGS request by the whole table. Each function owns one decrypted message, which the next one borrows.
-ghost use Rattle.std.specs.Prelude.{◌≡◌, ◌≤◌, length, Some};
+ghost use Rattle.std.specs.Prelude.{◌≡◌, Some};
+ghost use Rattle.krb_types.specs.RandomBytes.{AreEnoughForReply};
 ghost use Rattle.krb_kdc_requests.specs.Call.{call_of};
 ghost use Rattle.krb_kdc_requests.specs.Granting.{IsGranted};
 ghost use Rattle.krb_encrypted_data.specs.Keys.{suite_of};
@@ -21,7 +22,7 @@ use std::alloc::Global;
 /// Judges a TGS request by the realm's table (RFC 4120, section 3.3.3). It gives the reply that grants the service ticket, or
 /// the error code.
 pub fn judge_tgs(alloc: Global, call: &Call<'_>, request: &KdcReq) -> Result<Vec<u8>, Refusal>
-    requires { 128 ≤ length call.now.words.now }
+    requires { AreEnoughForReply call.now.words.now }
     ensures { IsGranted (tgs_table (call_of call.now) request.now).gives result }
 {
     check_request(call.realm, request)?;
@@ -39,7 +40,7 @@ fn judge_carried(
     body: &KdcReqBody,
     ap_req: &ApReqInner,
 ) -> Result<Vec<u8>, Refusal>
-    requires { 128 ≤ length call.now.words.now }
+    requires { AreEnoughForReply call.now.words.now }
     ensures { IsGranted (of_carried (call_of call.now) body.now ap_req.now).gives result }
 {
     let name = krbtgt_of(alloc, call.realm)?;
@@ -60,7 +61,7 @@ fn judge_ticket(
     ap_req: &ApReqInner,
     part: &EncTicketPartInner,
 ) -> Result<Vec<u8>, Refusal>
-    requires { 128 ≤ length call.now.words.now }
+    requires { AreEnoughForReply call.now.words.now }
     ensures { IsGranted (of_ticket (call_of call.now) body.now ap_req.now part.now).gives result }
 {
     let authenticated = open_authenticator(alloc, call, part, ap_req)?;
@@ -77,7 +78,7 @@ fn judge_authenticated(
     part: &EncTicketPartInner,
     authenticated: &Authenticated,
 ) -> Result<Vec<u8>, Refusal>
-    requires words { 128 ≤ length call.now.words.now }
+    requires words { AreEnoughForReply call.now.words.now }
     requires suite { suite_of part.now.key.0 ≡ Some authenticated.now.suite }
     ensures { IsGranted (of_authenticated (call_of call.now) body.now part.now authenticated.now).gives result }
 {
@@ -109,7 +110,7 @@ fn judge_accounts(
     opened: &OpenedApReq<'_>,
     body: &KdcReqBody,
 ) -> Result<Vec<u8>, Refusal>
-    requires words { 128 ≤ length call.now.words.now }
+    requires words { AreEnoughForReply call.now.words.now }
     requires key { HasSessionKey opened.now }
     ensures { IsGranted (tgs_granted (call_of call.now) opened.now.part.now opened.now.authenticated.now body.now).gives result }
 {

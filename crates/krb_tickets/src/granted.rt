@@ -1,6 +1,7 @@
 //! Granting a ticket, in an AS or a TGS exchange (RFC 4120, sections 3.1.3, 3.3.3).
 
-ghost use Rattle.std.specs.Prelude.{◌≤◌, length, IfOk};
+ghost use Rattle.std.specs.Prelude.{IfOk};
+ghost use Rattle.krb_types.specs.RandomBytes.{AreEnoughForReply};
 ghost use Rattle.krb_tickets.specs.Grant.{grant_of};
 ghost use Rattle.krb_tickets.specs.Granted.{IsTicketReply};
 ghost use Rattle.krb_tickets.specs.ReplyKeys.{reply_key_of};
@@ -22,7 +23,7 @@ pub fn ticket_reply(
     service: &Account,
     words: &[u8],
 ) -> Result<Vec<u8>, AllocError>
-    requires { 128 ≤ length words.now }
+    requires { AreEnoughForReply words.now }
     ensures { IfOk result (λ bytes. IsTicketReply (grant_of grant.now) (reply_key_of under.now) service.now words.now bytes.items) }
 {
     let confounder = confounder_at(service.suite(), words, TICKET_CONFOUNDER);

@@ -5,14 +5,11 @@ ghost use Rattle.asn1_leaves.specs.GeneralizedTime.{seconds_of};
 ghost use Rattle.krb_tickets.specs.Times.{end_of, old_end, start_of};
 
 use krb_accounts::Settings;
-use krb_time::{EPOCH, Moment};
+use krb_time::{EPOCH, LAST_SECOND, Moment};
 use picky_asn1::date::GeneralizedTime;
 
 /// The `till` that requests the latest endtime that is permitted, 1970-01-01 00:00:00 (RFC 4120, section 5.4.1), in seconds since year 0.
 const NO_END: u64 = EPOCH;
-
-/// The last second that a KerberosTime can have, 9999-12-31 23:59:59.
-const LAST_SECOND: u64 = 315_569_519_999;
 
 /// The starttime of a ticket that is granted at a moment: the moment's second.
 pub fn start_of(moment: Moment) -> GeneralizedTime

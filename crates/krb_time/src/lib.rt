@@ -9,6 +9,6 @@ mod calendar;
 mod moment;
 mod times;
 
-pub use calendar::{EPOCH, MICROSECONDS_IN_SECOND};
+pub use calendar::{EPOCH, LAST_SECOND, MICROSECONDS_IN_SECOND};
 pub use moment::Moment;
 pub use times::moment_at;

@@ -1,6 +1,6 @@
-ghost use Rattle.std.specs.Prelude.{◌≡◌, ◌≤◌, ℕ, SomeIff};
+ghost use Rattle.std.specs.Prelude.{◌≡◌, ℕ, SomeIff};
 ghost use Rattle.krb_time.specs.Moment.{IsMoment};
-ghost use Rattle.krb_time.specs.Skew.{is_far};
+ghost use Rattle.krb_time.specs.Skew.{is_far, IsWithinDay};
 
 use std::marker::Model;
 
@@ -47,7 +47,7 @@ impl Moment {
     /// Whether the two moments differ by more than the skew, which is in microseconds, a day at most (RFC 4120,
     /// section 5.9.1, KRB_AP_ERR_SKEW).
     pub fn is_far_from(self, other: Moment, skew: u64) -> bool
-        requires { skew ≤ 86400000000 }
+        requires { IsWithinDay skew }
         ensures { result ≡ is_far skew self other }
     {
         let moment = self.micros();

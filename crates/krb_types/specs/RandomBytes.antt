@@ -1,11 +1,27 @@
 -- Which of a call's random bytes are what. No two things of one message share a byte: a confounder has at most 16 of them, and
 -- the seed of a key at most 32, as many as its suite wants (RFC 3961, section 3).
-use Rattle.std.specs.Prelude.{ℕ, List, drop, take}
+use Rattle.std.specs.Prelude.{ℕ, ◌≤◌, List, length, drop, take}
 use Rattle.picky_asn1.specs.Bytes.{Bytes}
 
 -- the random bytes that a caller hands in
 abbrev pub Random : Type 0
 Random = List ℕ
+
+-- As many random bytes as a client's request takes.
+abbrev pub AreEnoughForRequest : Random → Type 0
+AreEnoughForRequest words = 96 ≤ length words
+
+-- As many random bytes as a realm's reply takes.
+abbrev pub AreEnoughForReply : Random → Type 0
+AreEnoughForReply words = 128 ≤ length words
+
+-- As many random bytes as a service's reply takes that has a time alone.
+abbrev pub AreEnoughForApReply : Random → Type 0
+AreEnoughForApReply words = 16 ≤ length words
+
+-- As many random bytes as a service's reply takes that has a subkey and a first sequence number too.
+abbrev pub AreEnoughForSubkey : Random → Type 0
+AreEnoughForSubkey words = 64 ≤ length words
 
 -- what begins behind so many bytes, and has so many
 abbrev pub random_part : ℕ → ℕ → Random → Bytes

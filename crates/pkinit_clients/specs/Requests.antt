@@ -53,8 +53,8 @@ pub record IsUnsignedPack (keys : KeysRecord) (body : KdcReqBody) (moment : Micr
   pub of_moment : IsSecondOf moment second
   pub unsigned : keys.sign (signed_bytes auth_data (pack_bytes body moment second value)) ≡ None
 
--- There is no PA-PK-AS-REQ if the key functions have no public value or no signature, or the bytes are no certificate.
--- Test: `a@R for h, nopublic`, `b@R for h, nosign` of `pkinit_steps.txt`.
+-- There is no PA-PK-AS-REQ if the key functions have no public value or no signature, or the bytes are no certificate (RFC 4556, section
+-- 3.2.1). Test: `a@R for h, nopublic`, `b@R for h, nosign` of `pkinit_steps.txt`.
 abbrev pub IsNoPkAsReq : KeysRecord → Bytes → KdcReqBody → Micros → Bytes → Type 0
 IsNoPkAsReq keys certificate body moment words =
     (keys.public_value words ≡ None) ⊎ (IsUnsignedPack keys body moment words ⊎ IsNoCertificate certificate)

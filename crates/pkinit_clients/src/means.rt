@@ -1,6 +1,7 @@
 //! The means of a client by its certificate.
-ghost use Rattle.std.specs.Prelude.{◌≡◌, ◌≤◌, ◌⊎◌, length, IfErr, IfOk};
+ghost use Rattle.std.specs.Prelude.{◌≡◌, ◌⊎◌, IfErr, IfOk};
 ghost use Rattle.std.specs.Option.{option_copied};
+ghost use Rattle.krb_types.specs.RandomBytes.{AreEnoughForRequest};
 ghost use Rattle.krb_client.specs.Refusals.{IsTaken};
 ghost use Rattle.krb_client.specs.Requests.{pa_data_of};
 ghost use Rattle.pkinit_clients.specs.Faults.{IsTakenAs, as_secret};
@@ -72,7 +73,7 @@ fn pkinit_padata<K: KeyFunctions>(
     moment: Moment,
     words: &[u8],
 ) -> Result<PaData, AskRefusal>
-    requires { 96 ≤ length words.now }
+    requires { AreEnoughForRequest words.now }
     ensures shown { IfOk result (IsPkinitPadata (K.functions keys.now) certificate.now body.now moment words.now) }
     ensures refusal { IfErr result (λ refusal. (refusal ≡ AskRefusal.Memory)
         ⊎ ((refusal ≡ AskRefusal.NoKeyFunction) × IsNoPkinitPadata (K.functions keys.now) certificate.now body.now moment words.now)) }

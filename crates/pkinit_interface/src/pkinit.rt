@@ -1,5 +1,7 @@
 //! How a realm authenticates clients by certificate.
-ghost use Rattle.std.specs.Prelude.{◌≡◌, ◌≤◌, length};
+ghost use Rattle.std.specs.Prelude.{◌≡◌};
+ghost use Rattle.krb_time.specs.Skew.{IsWithinDay};
+ghost use Rattle.krb_types.specs.RandomBytes.{AreEnoughForReply};
 ghost use Rattle.krb_types.specs.Refusals.{IsJudged};
 ghost use Rattle.pkinit_interface.specs.Calls.{agreed_as, call_of};
 
@@ -21,7 +23,7 @@ pub trait Pkinit {
     /// Judges the data of PA-PK-AS-REQ: what client and realm agree on, or the error code of the first row that refuses it (RFC
     /// 4556, section 3.2.2).
     fn judge(&self, alloc: Global, call: &PkinitCall<'_>, padata: &[u8]) -> Result<Agreed, Refusal>
-        requires long { 128 ≤ length call.now.words.now }
-        requires near { call.now.skew ≤ 86400000000 }
+        requires long { AreEnoughForReply call.now.words.now }
+        requires near { IsWithinDay call.now.skew }
         ensures { IsJudged ((rows self.now).judges (call_of call.now) padata.now).gives (agreed_as result) };
 }

@@ -1,5 +1,7 @@
 //! A realm that authenticates clients by certificate.
-ghost use Rattle.std.specs.Prelude.{◌≡◌, ◌≤◌, length};
+ghost use Rattle.std.specs.Prelude.{◌≡◌};
+ghost use Rattle.krb_time.specs.Skew.{IsWithinDay};
+ghost use Rattle.krb_types.specs.RandomBytes.{AreEnoughForReply};
 ghost use Rattle.krb_types.specs.Refusals.{IsJudged};
 ghost use Rattle.pkinit_interface.specs.Calls.{agreed_as, call_of};
 ghost use Rattle.pkinit_requests.specs.PkinitTable.{pkinit_table};
@@ -57,8 +59,8 @@ fn judge_pk_as_req<K: KeyFunctions>(
     call: &PkinitCall<'_>,
     padata: &[u8],
 ) -> Result<Agreed, Refusal>
-    requires long { 128 ≤ length call.now.words.now }
-    requires near { call.now.skew ≤ 86400000000 }
+    requires long { AreEnoughForReply call.now.words.now }
+    requires near { IsWithinDay call.now.skew }
     ensures { IsJudged (pkinit_table (K.functions own.now.keys.now) (trust_of own.now.anchor own.now.certificate) (call_of call.now) padata.now).gives (agreed_as result) }
 {
     let Some(anchor) = own.anchor else {

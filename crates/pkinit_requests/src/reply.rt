@@ -1,5 +1,6 @@
 //! The padata-value of a PA-PK-AS-REP.
-ghost use Rattle.std.specs.Prelude.{◌≡◌, ◌≤◌, length, IfOk};
+ghost use Rattle.std.specs.Prelude.{◌≡◌, IfOk};
+ghost use Rattle.krb_types.specs.RandomBytes.{AreEnoughForReply};
 ghost use Rattle.picky_asn1_der.specs.Found.{IsFound};
 ghost use Rattle.krb_types.specs.Refusals.{IsJudged};
 ghost use Rattle.pkinit_requests.specs.PublicKeys.{IsPublicKey};
@@ -29,7 +30,7 @@ pub fn pk_as_rep<K: KeyFunctions>(
     nonce: &IntegerAsn1,
     words: &[u8],
 ) -> Result<Vec<u8>, Refusal>
-    requires { 128 ≤ length words.now }
+    requires { AreEnoughForReply words.now }
     ensures { IsJudged (pk_as_rep (K.functions keys.now) certificate.now nonce.now words.now).gives (as_bytes result) }
 {
     let Some(element) = keys.public_value(

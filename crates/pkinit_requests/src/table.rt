@@ -1,5 +1,7 @@
 //! Judges the padata-value of a PA-PK-AS-REQ, part by part.
-ghost use Rattle.std.specs.Prelude.{◌≡◌, ◌≤◌, length};
+ghost use Rattle.std.specs.Prelude.{◌≡◌};
+ghost use Rattle.krb_time.specs.Skew.{IsWithinDay};
+ghost use Rattle.krb_types.specs.RandomBytes.{AreEnoughForReply};
 ghost use Rattle.krb_types.specs.Refusals.{IsJudged};
 ghost use Rattle.pkinit_interface.specs.Calls.{agreed_as};
 ghost use Rattle.pkinit_requests.specs.Judging.{judging_of};
@@ -32,8 +34,8 @@ pub(crate) fn judge_request<K: KeyFunctions>(
     judging: &Judging<'_>,
     padata: &[u8],
 ) -> Result<Agreed, Refusal>
-    requires long { 128 ≤ length judging.now.words.now }
-    requires near { judging.now.skew ≤ 86400000000 }
+    requires long { AreEnoughForReply judging.now.words.now }
+    requires near { IsWithinDay judging.now.skew }
     ensures { IsJudged (of_request (K.functions keys.now) (judging_of judging.now) padata.now).gives (agreed_as result) }
 {
     let Some(request) = read_pa_pk_as_req(alloc, padata)? else {
@@ -51,8 +53,8 @@ fn judge_signed<K: KeyFunctions>(
     judging: &Judging<'_>,
     bytes: &[u8],
 ) -> Result<Agreed, Refusal>
-    requires long { 128 ≤ length judging.now.words.now }
-    requires near { judging.now.skew ≤ 86400000000 }
+    requires long { AreEnoughForReply judging.now.words.now }
+    requires near { IsWithinDay judging.now.skew }
     ensures { IsJudged (of_signed (K.functions keys.now) (judging_of judging.now) bytes.now).gives (agreed_as result) }
 {
     match SignedContent::read(alloc, bytes) {
@@ -77,8 +79,8 @@ fn judge_content<K: KeyFunctions>(
     judging: &Judging<'_>,
     content: &SignedContent<'_>,
 ) -> Result<Agreed, Refusal>
-    requires long { 128 ≤ length judging.now.words.now }
-    requires near { judging.now.skew ≤ 86400000000 }
+    requires long { AreEnoughForReply judging.now.words.now }
+    requires near { IsWithinDay judging.now.skew }
     ensures { IsJudged (of_content (K.functions keys.now) (judging_of judging.now) content.now).gives (agreed_as result) }
 {
     if !is_auth_data(content) {
@@ -107,8 +109,8 @@ fn judge_auth_pack<K: KeyFunctions>(
     content: &SignedContent<'_>,
     pack: &AuthPack<Asn1RawDer>,
 ) -> Result<Agreed, Refusal>
-    requires long { 128 ≤ length judging.now.words.now }
-    requires near { judging.now.skew ≤ 86400000000 }
+    requires long { AreEnoughForReply judging.now.words.now }
+    requires near { IsWithinDay judging.now.skew }
     ensures { IsJudged (of_auth_pack (K.functions keys.now) (judging_of judging.now) content.now pack.now).gives (agreed_as result) }
 {
     let fields = auth_pack_fields(alloc, judging.body, pack)?;
@@ -123,8 +125,8 @@ fn agree_on<K: KeyFunctions>(
     judging: &Judging<'_>,
     fields: &AuthPackFields<'_>,
 ) -> Result<Agreed, Refusal>
-    requires long { 128 ≤ length judging.now.words.now }
-    requires near { judging.now.skew ≤ 86400000000 }
+    requires long { AreEnoughForReply judging.now.words.now }
+    requires near { IsWithinDay judging.now.skew }
     ensures { IsJudged (agreed_on (K.functions keys.now) (judging_of judging.now) fields.now).gives (agreed_as result) }
 {
     if judging

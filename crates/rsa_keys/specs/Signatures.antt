@@ -34,9 +34,9 @@ hash_named arc =
     if nat_eq arc 1 || nat_eq arc 11 then Ok Sha256
     else if nat_eq arc 12 then Ok Sha384
     else if nat_eq arc 13 then Ok Sha512
-    -- A signature isn't over MD5. Test: `check Md5`.
+    -- A signature isn't over MD5 (RFC 6151, section 2). Test: `check Md5`.
     else if nat_eq arc 4 then Err Md5
-    -- A signature isn't over SHA-1. Test: `check Sha1`.
+    -- A signature isn't over SHA-1 (RFC 8017, section 8.2). Test: `check Sha1`.
     else if nat_eq arc 5 then Err Sha1
     -- A signature is RSASSA-PKCS1-v1_5 with SHA-256, SHA-384 or SHA-512 (RFC 8017, section 8.2). Test: `check OtherAlgorithm`.
     else Err OtherAlgorithm
@@ -90,7 +90,7 @@ numbers_of key =
 -- the modulus and public exponent of a public key, if it is an RSA key
 abbrev pub numbers_in : PublicKey → Result Numbers RsaKeyRefusal
 numbers_in (Rsa key) = numbers_of key.0
--- The key is one of RSA, as the signature's algorithm is. Test: `check NotRsa`.
+-- The key is one of RSA, as the signature's algorithm is (RFC 8017, section 8.2.2). Test: `check NotRsa`.
 numbers_in (Ec point) = Err NotRsa
 numbers_in (Ed point) = Err NotRsa
 numbers_in (Mldsa bits) = Err NotRsa
