@@ -30,10 +30,10 @@ abbrev pub exchanged : ℕ → ℕ → ℕ → List ℕ → List ℕ
 exchanged size m n x = take (size * m) x ++ block_at size x (m + 1) ++ take (n - size * (m + 1)) (block_at size x m)
 
 -- Ciphertext stealing is CBC with an initial vector of zeros (RFC 3962, section 5). Up to one block, c is the cipher of the
--- zero-padded block. Of more, c is the chain of the zero-padded text, cut to the length of the text p. Its last two blocks are
--- exchanged, even if the last one is whole. Test: `cts`, `cbc` of `standards.txt`; `no_exchange_at_whole_block`.
--- Ignored: the key's length where there are no octets. Decryption refuses 1 to 15 octets (CipherLength), and then the key's length
--- (KeyLength). Test: `short_stolen` of `refusals.rt`.
+-- zero-padded block. Of more, the last two blocks of the zero-padded text's chain are exchanged, even if the last one is whole. Then c is
+-- its front, as long as the text p. Test: `cts`, `cbc` of `standards.txt`; `no_exchange_at_whole_block`.
+-- Ignored: the key's length where no octets are decrypted. Decryption refuses 1 to 15 octets (CipherLength), and then another length
+-- of the key (KeyLength). Test: `short_stolen` of `refusals.rt`.
 pub record IsStolen (size : ℕ) (E : List ℕ → List ℕ) (p c : List ℕ) : Type 0 where
   pub short : length p ≤ size → IsChained size E (zero_filled size p) c
   pub long : size < length p → (x : List ℕ) × IsChained size E (zero_filled size p) x × (c ≡ exchanged size (block_count size (length p) - 2) (length p) x)

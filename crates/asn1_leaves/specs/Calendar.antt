@@ -12,12 +12,12 @@ days_in_month year month =
     if month == 2 then (if is_leap_year year then 29 else 28)
     else (if (month == 4) || (month == 6) || (month == 9) || (month == 11) then 30 else 31)
 
--- A time's date is one of the calendar, in the years 0 to 9999 (X.690, section 11.7). Test: `no_times` of `leaves.rt`.
+-- A time's date is one of the calendar, in the years 0 to 9999 (X.680, section 46). Test: `no_times` of `leaves.rt`.
 abbrev pub IsCalendarDate : ℕ → ℕ → ℕ → Type 0
 IsCalendarDate year month day =
     (year ≤ 9999) × IsInRange 1 12 month × IsInRange 1 (days_in_month year month) day
 
--- A clock without leap seconds shows the time: it has no hour 24 and no second 60 (X.690, section 11.7). Test: `no_times` of `leaves.rt`;
+-- A clock without leap seconds shows the time: it has no hour 24 and no second 60 (X.690, section 11.7). Test: `as time hour 24!`,
 -- `as time second 60!`.
 abbrev pub IsTimeOfDay : ℕ → ℕ → ℕ → Type 0
 IsTimeOfDay hour minute second = (hour < 24) × (minute < 60) × (second < 60)

@@ -46,7 +46,7 @@ sha256_id-is = refl
 abbrev pub is_id : ObjectIdentifierAsn1 → List ℕ → Bool
 is_id oid content = pointwise nat_eq (oid_content oid.0) content
 
--- SHA-256 has the parameters NULL, which may be missing in what is read: others are refused (RFC 5754, section 2).
+-- In what is read, SHA-256 has the parameters NULL or none: others are refused (RFC 5754, section 2).
 -- Test: `good: digest parameters missing`, `digest identifier with octets as parameters`.
 unfoldable pub is_sha256 : RawAlgorithmIdentifier → Bool
 is_sha256 algorithm = is_id algorithm.algorithm sha256_id && is_null algorithm.parameters.0

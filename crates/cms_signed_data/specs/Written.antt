@@ -23,7 +23,7 @@ use Rattle.cms_signed_attributes.specs.Covered.{as_set}
 use Rattle.cms_signed_data.specs.SignedParts.{attributes_tree}
 use Rattle.asn1_der.specs.Octets.{sequence_octet}
 
--- The algorithm SHA-256 is written with the parameters NULL (RFC 5754, section 2).
+-- The algorithm SHA-256 is written with the parameters NULL: one of the two forms that readers accept (RFC 5754, section 2).
 abbrev pub sha256_algorithm : RawAlgorithmIdentifier
 sha256_algorithm = record { algorithm = record { 0 = oids.sha256 }; parameters = record { 0 = null } }
 
@@ -81,8 +81,8 @@ abbrev pub info_of : List ℕ → List ℕ → Certificate → Signed → Conten
 info_of content_type content value signed =
     info_with content_type content value (signer_of (id_of value) (attributes_of content_type content) signed)
 
--- The bytes are signed data of this type and content. The given bytes of the certificate are in it unchanged, and nothing else deviates
--- from DER (RFC 5652, section 5.1). Test: `certificate 38, 7 deviations in it`.
+-- The bytes are signed data of this type and content, and the party signed its signed attributes. The given bytes of the certificate are
+-- in it unchanged, and nothing else deviates from DER (RFC 5652, sections 5.1, 5.4). Test: `certificate 38, 7 deviations in it`.
 pub record IsWritten (sign : List ℕ → Option Signed) (content_type content given bytes : List ℕ) : Type 0 where
   pub value : Certificate
   pub count : ℕ

@@ -43,7 +43,7 @@ prime_of group = os2ip (octets_of group)
 abbrev pub public_of : Group → List ℕ → List ℕ
 public_of group secret = i2osp (size_of group) (2 ^ os2ip secret % prime_of group)
 
--- the value is one of 2 to the prime less 2, in no more octets than the prime has (RFC 2631, section 2.1.5)
+-- the value is one of 2 to the prime less 2, in no more octets than the prime has (RFC 7919, section 5.1)
 abbrev pub in_range : Group → List ℕ → Bool
 in_range group value = nat_le (length value) (size_of group) && (nat_lt 1 (os2ip value) && nat_lt (os2ip value + 1) (prime_of group))
 

@@ -78,7 +78,7 @@ carried token =
 -- the step after the tokens of a later message, where Kerberos' first token is due
 abbrev pub responded_to : Terms → Tokens → Table (Result Step AcceptRefusal)
 responded_to terms tokens =
-    -- The responseToken of a NegTokenResp is Kerberos' first token where that is due (RFC 4178, section 4.2.2).
+    -- A NegTokenResp has a responseToken where Kerberos' first token is due (RFC 4178, section 4.2.2).
     -- Test: `Not the token that is due.`.
     need tokens.mechanism NotAToken (λ token. held token (record { supported = None; terms = terms; mic = tokens.mic }))
 
@@ -171,7 +171,7 @@ Takes (AdmitRequest message exchange) acceptor moment random result after =
 Takes (VerifyMic unverified theirs) acceptor moment random result after = (after ≡ acceptor) × IsVerified unverified theirs result
 
 -- What a token asks is done. A token that asks nothing is refused as the table says, or because memory ran out, and nothing changes.
--- Test: `What is refused of an AP-REQ bare is refused in a negotiation.`.
+-- Test: `No such tokens.`, `What is refused of an AP-REQ bare is refused in a negotiation.`.
 abbrev pub Handles : Table (Result Step AcceptRefusal) → AcceptorRecord → Micros → Random → Result Accepted AcceptRefusal → AcceptorRecord → Type 0
 Handles table acceptor moment random result after =
     ((step : Step) × table.gives (Ok step) × Takes step acceptor moment random result after)

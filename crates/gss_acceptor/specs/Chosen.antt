@@ -12,7 +12,7 @@ use Rattle.gss_acceptor.specs.declared.accepted.Accepted.{Accepted}
 use Rattle.gss_acceptor.specs.declared.accepted.Accepted.TheVariants.{ContinueNeeded, Established}
 use Rattle.gss_acceptor.specs.declared.accepted.Stage.{Stage}
 use Rattle.gss_acceptor.specs.declared.accepted.Stage.TheVariants.{Token, Mic}
-use Rattle.krb_service.specs.Admission.{starttime_of}
+use Rattle.krb_ap_requests.specs.ApTable.{starttime_of}
 
 -- the key is the acceptor's subkey, of the session key's suite; or else the authenticator's subkey if it has one, or else the session key
 abbrev pub IsKeyOf : Bool → Choice → KeyRecord → Type 0

@@ -35,7 +35,8 @@ number_of (negsuc n) = if nat_lt n 2147483648 then Some (4294967295 - n) else No
 abbrev pub first_number : Option ℤ → Result ℕ AcceptRefusal
 first_number None = Ok 0
 -- The initiator's first sequence number has 32 bits, also where it is written as the negative number of these bits. It is 0 where the
--- authenticator has none (RFC 4120, section 5.5.1). Test: `Refused after the admission.`, `No subkey,`.
+-- authenticator has none (RFC 4120, section 5.5.1). Test: `Refused after the admission.`, `Octets after the flags, which aren't read.`,
+-- `No subkey,`.
 first_number (Some number) = or_refused (number_of number) BadSequenceNumber
 
 -- what an AP-REP has beside the time
@@ -44,8 +45,8 @@ fields_of terms = if terms.with_subkey then SubkeyAndNumber else TimeAlone
 
 -- the key that the client chose
 abbrev pub context_key : Option EncryptionKey → EncryptionKey → Result KeyRecord AcceptRefusal
--- Without a subkey of the acceptor, the context's key is the initiator's subkey, or else the session key (RFC 4121, section 2). Test:
--- `Refused after the admission.`, `A subkey of another suite`, `No subkey,`.
+-- Without a subkey of the acceptor, the context's key is the initiator's subkey, or else the session key (RFC 4121, section 2). Its type
+-- and length are a suite's. Test: `Refused after the admission.`, `A subkey of another suite`, `No subkey,`.
 context_key (Some subkey) session = or_refused (key_in subkey) UnknownKey
 context_key None session = or_refused (key_in session) UnknownKey
 

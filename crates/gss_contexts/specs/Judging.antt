@@ -31,8 +31,9 @@ is_wrap token =
 -- of its number (RFC 4121, section 4.2).
 unfoldable pub judged : ContextRecord → Bool → List ℕ → Result ℕ TokenRefusal
 judged c is_token token =
-    -- The token has its TOK_ID and its filler, and 16 octets or more (RFC 4121, sections 4.2.6.1 and 4.2.6.2). Test: `A foreign id, a wrong
-    -- filler of the header, a short token.`.
+    -- The token has its TOK_ID and its filler, and 16 octets or more. A MIC token hasn't the flag Sealed (RFC 4121, sections 4.2.2, 4.2.6.1
+    -- and 4.2.6.2). Test: `A foreign id, a wrong filler of the header, a short token.`, `A foreign id, a wrong filler of the header, the
+    -- flag Sealed,`.
     if not is_token then Err NoSuchToken
     -- The flag SentByAcceptor names the other side (RFC 4121, section 4.2.2). Test: `unwrap OwnDirection`, `verify_mic OwnDirection`.
     else if beq (is_set (slice_index token 2) SENT_BY_ACCEPTOR) (is_acceptor c.side) then Err OwnDirection
@@ -100,8 +101,9 @@ pub record IsCarried (sender : Sender) (protection : Protection) (confounder mes
   pub is_text : IsTextOf token text
   pub carries : Carries sender protection (be16_at 4 token) confounder message token text
 
--- The data are no message's if nothing is encrypted to them under the key, or the checksum differs (WrongChecksum), or the plaintext doesn't
--- end with the token's header (OtherHeader) (RFC 4121, section 4.2.4). Test: `unwrap WrongChecksum`, `unwrap OtherHeader`.
+-- The data are no message's if nothing is encrypted to them under the key, or the checksum differs (WrongChecksum). Nor are they if the
+-- plaintext doesn't end with EC octets of filler and the token's header (OtherHeader) (RFC 4121, section 4.2.4). Test: `unwrap
+-- WrongChecksum`, `unwrap OtherHeader`.
 abbrev pub IsUnread : Sender → Protection → List ℕ → List ℕ → TokenRefusal → Type 0
 IsUnread s Sealed token text WrongChecksum =
     (d p : List ℕ) → IsSealedBy s.key.suite s.key.bytes (seal_usage s.side) d p text → ⊥
@@ -115,8 +117,8 @@ IsUnread s protection token text e = ⊥
 abbrev pub IsUnopened : Sender → Protection → List ℕ → TokenRefusal → Type 0
 IsUnopened s protection token e = (text : List ℕ) × IsTextOf token text × IsUnread s protection token text e
 
--- A wrap token is refused by its header, or else by its data: they don't decrypt, or don't end with the header (RFC 4121, section 4.2.4).
--- Test: `unwrap WrongChecksum`.
+-- A wrap token is refused by its header, or else by its data: they don't decrypt, have another checksum, or don't end with the header (RFC
+-- 4121, section 4.2.4). Test: `unwrap WrongChecksum`, `unwrap OtherHeader`.
 abbrev pub IsWrapRefusal : ContextRecord → List ℕ → TokenRefusal → Type 0
 IsWrapRefusal c token e =
     (judged c (is_wrap token) token ≡ Err e)

@@ -20,12 +20,12 @@ binding_octets application = (replicate 16 0 ++ le32 (length application)) ++ ap
 abbrev pub bindings_of : Bytes → Option Bytes
 bindings_of application = if nat_lt (length application) 4294967296 then Some (md5 (binding_octets application)) else None
 
--- The checksum has the type 0x8003. Its octets are the length 16 of the hash of the channel bindings, the hash, and the flags; the numbers
--- are in four octets, the lowest first (RFC 4121, section 4.1.1). Test: `initiate Established`.
+-- the octets of the checksum with these bindings and flags
 abbrev pub initial_octets : InitialChecksum → Bytes
 initial_octets initial = (le32 BINDINGS ++ initial.bindings) ++ le32 initial.flags.0
 
--- the checksum of an authenticator with these bindings and flags (RFC 4121, section 4.1.1)
+-- The checksum has the type 0x8003. Its octets are the length 16 of the hash of the channel bindings, the hash, and the flags; the numbers
+-- are in four octets, the lowest first (RFC 4121, section 4.1.1). Test: `initiate Established`.
 abbrev pub initial_checksum : InitialChecksum → Checksum
 initial_checksum initial = record { cksumtype = record { 0 = pos GSS_API }; checksum = record { 0 = initial_octets initial } }
 

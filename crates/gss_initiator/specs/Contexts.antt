@@ -34,10 +34,11 @@ context_in it in_sequence numbers =
       ends = None;
       numbers = numbers;
     }))
-    -- The key is of a suite of AES: triple DES has the tokens of RFC 1964. Test: `initiate OldSuite`.
+    -- The key is of a suite of AES: triple DES has the tokens of RFC 1964. Test: `take OldSuite`.
     else Err OldSuite
 
--- the end under the initiator's subkey; without an AP-REP the acceptor's numbers begin where the initiator's do. Test: `initiate Established`.
+-- Without an AP-REP the end is under the initiator's subkey, and the acceptor's numbers begin where the initiator's do. Test: `With an
+-- AP-REP, and at once without one.`.
 abbrev pub own_context : Pending → Result ContextRecord InitiateRefusal
 own_context pending =
     context_in (record { key = pending.key; is_acceptors = false }) pending.in_sequence (record { sending = pending.number; taking = pending.number })

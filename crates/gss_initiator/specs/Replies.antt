@@ -76,7 +76,8 @@ replied asked message =
 -- the message of an error's token
 abbrev pub failed : Bytes → Table Part
 failed message =
-    -- A KRB-ERROR in its token is refused with its error-code (RFC 4121, section 4.1). Test: `take Refused`.
+    -- The message is the DER encoding of one KRB-ERROR. Its error-code is then the refusal (Refused) (RFC 4120, section 5.9.1; RFC 4121,
+    -- section 4.1). Test: `take NotAToken`, `take Refused(37)`.
     ask (IsErrorCode message) (sole_error_code message) (done (Err NotAToken)) (λ code. done (Err (Refused code)))
 
 -- a token that has no AP-REP

@@ -26,8 +26,9 @@ use Rattle.gss_initiator.specs.declared.heard.Heard.{Heard}
 abbrev pub is_as : Bytes → Bytes → Bool
 is_as octets expected = pointwise nat_eq octets expected
 
--- Whether a further token of the initiator is due, by the element of the state: accept-completed (0), accept-incomplete (1), reject (2) or
--- request-mic (3). A rejection is refused as one (RFC 4178, section 4.2.2). Test: `take Rejected`, `take NotAToken`.
+-- A further token of the initiator is due by the states accept-incomplete (1) and request-mic (3), and none by accept-completed (0). A
+-- rejection (2) is refused as one, and another state is none (RFC 4178, section 4.2.2). Test: `take NoMic`, `take Rejected`, `take
+-- NotAToken`.
 abbrev pub due_by : Bytes → Result Bool InitiateRefusal
 due_by octets =
     if is_as octets ACCEPT_COMPLETE then Ok false
@@ -47,7 +48,8 @@ abbrev pub names_other : Option (ExplicitContextTag 1 ObjectIdentifierAsn1) → 
 names_other None = false
 names_other (Some mechanism) = not (is_some (kerberos_in mechanism.0))
 
--- The mechanism that the acceptor names is Kerberos, by either identifier (RFC 4178, section 4.2.2). Test: `take OtherMechanism`.
+-- The mechanism that the acceptor names is Kerberos, by either identifier (RFC 4178, section 4.2.2). Test: `take OtherMechanism`, `In
+-- SPNEGO, by either identifier or none`.
 abbrev pub judged_answer : NegTokenTarg → Result Bool InitiateRefusal
 judged_answer message = then_judged (due_in message.neg_result.0) (λ due. if names_other message.supported_mech.0 then Err OtherMechanism else Ok due)
 

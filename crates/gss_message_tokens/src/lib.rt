@@ -2,8 +2,8 @@
 //! a process's integrity level (MS-KILE, section 2.2.5).
 //!
 //! A token that is read or written is laid out in the bytes that were taken or given (`IsMicToken`, `IsWrapToken`), and the first wrong
-//! field decides the refusal. Of any device an I/O error is the end of the bytes or the device's own counted fault. No clause is about a
-//! token's checksum, which isn't computed here. `LsapTokenInfoIntegrity::{encode, decode}` write and read the record of 40 octets.
+//! field decides the refusal. Of any device an I/O error is the end of the bytes or the device's own counted fault. No clause says that a
+//! token's checksum is right: it isn't computed here. `LsapTokenInfoIntegrity::{encode, decode}` write and read the record of 40 octets.
 #![tactic(auto)]
 
 mod error;

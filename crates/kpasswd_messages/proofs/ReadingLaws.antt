@@ -22,7 +22,7 @@ use Rattle.byte_layouts.proofs.NumberLaws.{be16-again, be16_at-append}
 use Rattle.kpasswd_messages.specs.declared.error.KrbPrivFrameError.{KrbPrivFrameError}
 use Rattle.kpasswd_messages.specs.declared.frame.KrbPrivFrame.{KrbPrivFrame}
 use Rattle.kpasswd_messages.specs.Frames.{IsHeader}
-use Rattle.kpasswd_messages.specs.Reading.{HasOtherVersion, HasNoParts, IsHeaderFault, IsHeaderRefusal, IsDeviceFault, IsExcuse, IsRefusal, TellsRead, der_kind, IsFramedAs, BeginsFramed, IsUnframed, seen_frame}
+use Rattle.kpasswd_messages.specs.Reading.{HasOtherVersion, HasNoParts, IsHeaderFault, IsHeaderRefusal, IsDeviceFault, IsExcuse, IsRefusal, TellsRead, der_kind, element_limit, IsFramedAs, BeginsFramed, IsUnframed, seen_frame}
 use Rattle.kpasswd_messages.proofs.FrameLaws.{frame-joined, frame-split}
 
 -- another version that came is the bytes'
@@ -97,8 +97,8 @@ told-since after old mid new last e same told = subst (λ (n : ℕ). TellsRead a
 
 -- a part that wasn't read
 pub part-refused : {T : Type 0} (reads : T → List ℕ → Type 0) (left : Option (List ℕ)) (fault : Asn1DerError) (old new : ℕ) (last : Option ErrorKind) (e : ErrorKind)
-    → MissesNext reads 10240 left fault → new ≡ faults_after fault old → TellsKind fault last → e ≡ der_kind fault
-    → IsExcuse old new last e ⊎ ((e ≡ InvalidData) × IsNotNext (IsReadBy reads) left 10240)
+    → MissesNext reads element_limit left fault → new ≡ faults_after fault old → TellsKind fault last → e ≡ der_kind fault
+    → IsExcuse old new last e ⊎ ((e ≡ InvalidData) × IsNotNext (IsReadBy reads) left element_limit)
 part-refused reads left der.Memory old new last e why count kind is = inl (inl is)
 part-refused reads left (der.Other k) old new last e why count kind is = inl (inr (count, kind ∙ ap Some (sym is)))
 part-refused reads left der.TruncatedData old new last e (inl excuse) count kind is = absurd excuse
@@ -156,7 +156,7 @@ no-header ra rp (Some bytes) after old new last e why = inr (inl why)
 
 -- no frame since no AP message is behind the header
 no-ap : {A P : Type 0} (ra : A → List ℕ → Type 0) (rp : P → List ℕ → Type 0) (left after : Option (List ℕ)) (header : List ℕ)
-    → IsHeader header → Consumes left after header → IsNotNext (IsReadBy ra) after 10240 → IfSome left (IsUnframed ra rp)
+    → IsHeader header → Consumes left after header → IsNotNext (IsReadBy ra) after element_limit → IfSome left (IsUnframed ra rp)
 no-ap ra rp None after header is took none = tt
 no-ap ra rp (Some bytes) None header is took none = absurd took
 no-ap ra rp (Some bytes) (Some more) header is took none = λ a p begins.
@@ -167,7 +167,7 @@ no-ap ra rp (Some bytes) (Some more) header is took none = λ a p begins.
 
 -- no frame since no KRB-PRIV is behind the AP message
 no-private : {A P : Type 0} (seen : Seen A) (ra : A → List ℕ → Type 0) (rp : P → List ℕ → Type 0) → IsOneValue seen ra → (left mid after : Option (List ℕ)) (header front : List ℕ) (v : A)
-    → IsHeader header → Consumes left mid header → ra v front → Consumes mid after front → IsNotNext (IsReadBy rp) after 10240 → IfSome left (IsUnframed ra rp)
+    → IsHeader header → Consumes left mid header → ra v front → Consumes mid after front → IsNotNext (IsReadBy rp) after element_limit → IfSome left (IsUnframed ra rp)
 no-private seen ra rp one None mid after header front v is took read then none = tt
 no-private seen ra rp one (Some bytes) None after header front v is took read then none = absurd took
 no-private seen ra rp one (Some bytes) (Some more) None header front v is took read then none = absurd then
@@ -182,7 +182,7 @@ no-private seen ra rp one (Some bytes) (Some more) (Some rest) header front v is
 
 -- what was read is a frame
 pub all-read : {A P : Type 0} (ra : A → List ℕ → Type 0) (rp : P → List ℕ → Type 0) (left first second after : Option (List ℕ)) (header : List ℕ) (a : A) (p : P)
-    → IsHeader header → Consumes left first header → TakesNext ra 10240 first second a → TakesNext rp 10240 second after p
+    → IsHeader header → Consumes left first header → TakesNext ra element_limit first second a → TakesNext rp element_limit second after p
     → (whole : List ℕ) × IsFramedAs ra rp a p whole × Consumes left after whole
 all-read ra rp left first second after header a p is took (x, x_read, x_fits, x_took) (y, y_read, y_fits, y_took) = (
   header ++ (x ++ y),
@@ -235,7 +235,7 @@ partless ra rp bytes header more given is none =
 
 pub ap-refused : {A P : Type 0} (ra : A → List ℕ → Type 0) (rp : P → List ℕ → Type 0) (left first after : Option (List ℕ)) (old mid new : ℕ) (last : Option ErrorKind) (e : ErrorKind)
     → mid ≡ old → (header : List ℕ) × IsHeader header × Consumes left first header
-    → IsExcuse mid new last e ⊎ ((e ≡ InvalidData) × IsNotNext (IsReadBy ra) first 10240)
+    → IsExcuse mid new last e ⊎ ((e ≡ InvalidData) × IsNotNext (IsReadBy ra) first element_limit)
     → IfSome left (λ bytes. IsRefusal ra rp bytes after old new last e)
 ap-refused ra rp None first after old mid new last e same headed why = tt
 ap-refused ra rp (Some bytes) None after old mid new last e same (header, is, took) why = absurd took
@@ -246,8 +246,8 @@ ap-refused ra rp (Some bytes) (Some more) after old mid new last e same (header,
 
 pub private-refused : {A P : Type 0} (seen : Seen A) (ra : A → List ℕ → Type 0) (rp : P → List ℕ → Type 0) → IsOneValue seen ra
     → (left first second after : Option (List ℕ)) (old mid later new : ℕ) (last : Option ErrorKind) (e : ErrorKind) (v : A)
-    → mid ≡ old → later ≡ mid → (header : List ℕ) × IsHeader header × Consumes left first header → TakesNext ra 10240 first second v
-    → IsExcuse later new last e ⊎ ((e ≡ InvalidData) × IsNotNext (IsReadBy rp) second 10240)
+    → mid ≡ old → later ≡ mid → (header : List ℕ) × IsHeader header × Consumes left first header → TakesNext ra element_limit first second v
+    → IsExcuse later new last e ⊎ ((e ≡ InvalidData) × IsNotNext (IsReadBy rp) second element_limit)
     → IfSome left (λ bytes. IsRefusal ra rp bytes after old new last e)
 private-refused seen ra rp one None first second after old mid later new last e v same also headed taken why = tt
 private-refused seen ra rp one (Some bytes) None second after old mid later new last e v same also (header, is, took) taken why = absurd took

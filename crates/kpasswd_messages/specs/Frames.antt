@@ -5,7 +5,7 @@ use Rattle.byte_layouts.specs.Numbers.{be16}
 use Rattle.krb_constants.specs.declared.krb_priv.TheConstants.{PROTOCOL_VERSION}
 
 -- the header has six octets, and the version 1 in octets 2 and 3
--- Not judged: the two lengths of the header. Test: `lengths` of `priv_frames.rt`.
+-- Not judged: the two lengths of the header. Test: `read` of `priv_frames.rt`.
 abbrev pub IsHeader : List ℕ → Type 0
 IsHeader header = (length header ≡ 6) × Stands (part 2 (be16 PROTOCOL_VERSION)) header
 
@@ -22,8 +22,8 @@ pub record IsFramed (ap private whole : List ℕ) : Type 0 where
 abbrev pub length_parts : List ℕ → List ℕ → List Part
 length_parts ap private = part 0 (be16 (6 + length ap + length private)) ∷ part 4 (be16 (length ap)) ∷ []
 
--- A frame is the whole length, the version 1, the AP message's length, the AP message and the KRB-PRIV (RFC 3244, section 2). Test:
--- `written` of `priv_frames.rt`, `read` of `priv_frames.rt`.
+-- A frame is the whole length, the version 1, the AP message's length, the AP message and the KRB-PRIV (RFC 3244, section 2). The version
+-- is that of replies and of requests before RFC 3244, whose own requests have 0xFF80. Test: `lengths` of `priv_frames.rt`.
 pub record IsFrame (ap private whole : List ℕ) : Type 0 where
   pub framed : IsFramed ap private whole
   pub lengths : IsLaidOut (length_parts ap private) whole

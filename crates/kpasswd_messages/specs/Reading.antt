@@ -45,14 +45,18 @@ IsHeaderRefusal bytes after old new last e = IsBroken bytes after old new last e
 abbrev pub IsExcuse : ℕ → ℕ → Option ErrorKind → ErrorKind → Type 0
 IsExcuse old new last e = (e ≡ OutOfMemory) ⊎ IsDeviceFault old new last e
 
--- the frame of two values, each read from at most 10,240 bytes
+-- the most bytes of an element that is read from a device: 10,240
+abbrev pub element_limit : ℕ
+element_limit = 10240
+
+-- the frame of two values, each read from as many bytes at most
 pub record IsFramedAs {A P : Type 0} (reads_ap : A → List ℕ → Type 0) (reads_private : P → List ℕ → Type 0) (a : A) (p : P) (whole : List ℕ) : Type 0 where
   pub ap : List ℕ
   pub private : List ℕ
   pub ap_read : reads_ap a ap
   pub private_read : reads_private p private
-  pub ap_fits : length ap ≤ 10240
-  pub private_fits : length private ≤ 10240
+  pub ap_fits : length ap ≤ element_limit
+  pub private_fits : length private ≤ element_limit
   pub framed : IsFramed ap private whole
 
 -- the bytes begin with the frame of these values

@@ -5,7 +5,7 @@ ghost use Rattle.asn1_der.specs.Tree.{der, IsWhole, Writes};
 ghost use Rattle.byte_layouts.specs.Stops.{IsWriteStop};
 ghost use Rattle.kpasswd_messages.specs.Frames.{framed, frame_bytes, IsFrame};
 ghost use Rattle.asn1_der.specs.Seen.{Alike};
-ghost use Rattle.kpasswd_messages.specs.Reading.{IsFramedAs, BeginsFramed, IsExcuse, IsRefusal, TellsRead, seen_frame};
+ghost use Rattle.kpasswd_messages.specs.Reading.{IsFramedAs, BeginsFramed, IsExcuse, IsRefusal, TellsRead, element_limit, seen_frame};
 ghost use Rattle.kpasswd_messages.specs.Writing.{IsTooLong, IsUnframable};
 ghost use Rattle.asn1_der.specs.Refusals.{refusal_of};
 
@@ -155,6 +155,6 @@ impl<A: Serialize, P: Serialize> KrbPrivFrame<A, P> {
 /// bytes. It does nothing.
 pub fn written_is_read<A: Deserialize, P: Deserialize>()
     ensures { (a : A) (p : P) → IsWhole (A.tree a) → IsWhole (P.tree p)
-        → length (der (A.tree a)) ≤ 10240 → length (der (P.tree p)) ≤ 10240
+        → length (der (A.tree a)) ≤ element_limit → length (der (P.tree p)) ≤ element_limit
         → IsFramedAs (Writes A.tree) (Writes P.tree) a p (frame_bytes (der (A.tree a)) (der (P.tree p))) }
 {}

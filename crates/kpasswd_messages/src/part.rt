@@ -5,7 +5,7 @@ ghost use Rattle.asn1_der.specs.Tree.{der};
 ghost use Rattle.asn1_codec.specs.Cuts.{TakesNext};
 ghost use Rattle.asn1_der.specs.Refusals.{refusal_of};
 ghost use Rattle.asn1_codec.specs.Reading.{IsNotNext, IsReadBy};
-ghost use Rattle.kpasswd_messages.specs.Reading.{der_kind, IsExcuse, TellsRead};
+ghost use Rattle.kpasswd_messages.specs.Reading.{der_kind, element_limit, IsExcuse, TellsRead};
 ghost use Rattle.kpasswd_messages.specs.Writing.{IsUnwritten, write_kind};
 
 use asn1_codec::{FromDer, Serialize, from_reader, to_vec};
@@ -30,11 +30,11 @@ pub(crate) fn read_part<T: FromDer, R: Source>(
     alloc: Global,
     reader: &mut R,
 ) -> Result<T, ErrorKind>
-    ensures taken { IfOk result (TakesNext T.reads 10240 (R.left reader.old) (R.left reader.new)) }
+    ensures taken { IfOk result (TakesNext T.reads element_limit (R.left reader.old) (R.left reader.new)) }
     ensures count { MatchResult result (λ _. R.failed reader.new ≡ R.failed reader.old)
         (TellsRead (R.left reader.new) (R.failed reader.old) (R.failed reader.new) (R.last_fault reader.new)) }
     ensures refused { IfErr result (λ e. IsExcuse (R.failed reader.old) (R.failed reader.new) (R.last_fault reader.new) e
-        ⊎ ((e ≡ ErrorKind.InvalidData) × IsNotNext (IsReadBy T.reads) (R.left reader.old) 10240)) }
+        ⊎ ((e ≡ ErrorKind.InvalidData) × IsNotNext (IsReadBy T.reads) (R.left reader.old) element_limit)) }
     ensures same { R.through reader.new ≡ R.through reader.old }
 {
     match from_reader::<T, R>(alloc, reader) {

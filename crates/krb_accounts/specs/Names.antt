@@ -4,7 +4,7 @@ use Rattle.std.specs.List.{list_all}
 use Rattle.std.specs.Global.{Global}
 use Rattle.picky_asn1.specs.Bytes.{Bytes}
 
--- A realm's name has 1 to 255 characters, each below 128. Test: `realm is empty`, `realm c4` of `realms.txt`.
+-- A realm's name has 1 to 255 characters, each below 128. Test: `realm is empty`, `realm has 256 characters`, `realm c4` of `realms.txt`.
 abbrev pub is_realm_name : Bytes → Bool
 is_realm_name name = nat_le 1 (length name) && nat_le (length name) 255 && list_all (λ character. nat_lt character 128) name
 
@@ -12,7 +12,8 @@ is_realm_name name = nat_le 1 (length name) && nat_le (length name) 255 && list_
 abbrev pub IsRealmName : Bytes → Type 0
 IsRealmName name = IsTrue (is_realm_name name)
 
--- A name has 1 to 16 components, and each is as a realm's name. Test: `component 2 of name is empty`, `add_by_key - 17`.
+-- A name has 1 to 16 components, and each is as a realm's name. Test: `component 2 of name is empty`, `name has 0 components`, `name has 17
+-- components`.
 abbrev pub are_components : List Bytes → Bool
 are_components name = nat_le 1 (length name) && nat_le (length name) 16 && list_all is_realm_name name
 

@@ -33,10 +33,11 @@ pub fn are_components(name: &[Vec<u8>]) -> bool
     are_realm_names(name)
 }
 
-fn has_characters_below_128(name: &[u8]) -> bool
-    ensures { result ≡ list_all (λ character. nat_lt character 128) name.now }
+/// Whether each character is below 128.
+pub(crate) fn has_characters_below_128(text: &[u8]) -> bool
+    ensures { result ≡ list_all (λ character. nat_lt character 128) text.now }
 {
-    name.iter().all(|character| *character < 128)
+    text.iter().all(|character| *character < 128)
 }
 
 fn are_realm_names(names: &[Vec<u8>]) -> bool

@@ -1,11 +1,11 @@
 //! Names in one block of octets: the texts one after the other, each character plus one, and a zero after each text. Blocks
 //! compare as the lists of their texts do: by the first text that differs, and there by the first character that differs.
 
-ghost use Rattle.std.specs.Prelude.{◌≡◌, ◌++◌, nat_lt, IsTrue, OnOk};
-ghost use Rattle.std.specs.List.{list_all};
+ghost use Rattle.std.specs.Prelude.{◌≡◌, ◌++◌, IsTrue, OnOk};
 ghost use Rattle.arrayvec.specs.ArrayVec.{array_vec_len};
 ghost use Rattle.krb_accounts.specs.Packed.{packed_text, text_fits};
 
+use crate::names::has_characters_below_128;
 use arrayvec::ArrayVec;
 use picky_asn1::wrapper::GeneralStringAsn1;
 use std::alloc::AllocError;
@@ -39,10 +39,4 @@ pub fn pack_within<const N: usize>(block: &mut ArrayVec<u8, N>, text: &[u8]) -> 
     }
     block.push(0);
     true
-}
-
-fn has_characters_below_128(text: &[u8]) -> bool
-    ensures { result ≡ list_all (λ character. nat_lt character 128) text.now }
-{
-    text.iter().all(|character| *character < 128)
 }

@@ -20,8 +20,8 @@ abbrev pub hmac_size_of : AesSize → ℕ
 hmac_size_of Aes128 = 32
 hmac_size_of Aes256 = 48
 
--- A checksum, Ki and Kc have half of them: 16 or 24 octets. Ke has 16 or 32 (RFC 8009, sections 3 and 5). Test: `derive 19`,
--- `derive 20`.
+-- A checksum, Ki and Kc have half of the digest's octets: 16 or 24 (RFC 8009, sections 3 and 5). Test: `derive 19`, `derive 20`,
+-- `checksum 19`, `checksum 20`.
 abbrev pub tag_size_of : AesSize → ℕ
 tag_size_of Aes128 = 16
 tag_size_of Aes256 = 24

@@ -10,7 +10,7 @@ use Rattle.krb_profile.specs.Sealing.{IsRefusalInOrder}
 use Rattle.krb_aes_sha2.specs.Derivation.{hmac_sha2_of, sha2_derived_key_of, sha2_password_key_of, tag_size_of}
 
 -- The checksum is the HMAC, cut to 16 or 24 octets, also of a text that isn't encrypted with it (RFC 8009, sections 5 and 6). Test:
--- `checksum 19`, `checksum 20`.
+-- `seal 19`, `seal 20`, `checksum 19`, `checksum 20`.
 abbrev pub sha2_tag_of : AesSize → List ℕ → List ℕ → List ℕ
 sha2_tag_of size key text = take (tag_size_of size) (hmac_sha2_of size key text)
 
@@ -23,8 +23,8 @@ IsSha2Refusal = IsRefusalInOrder
 abbrev pub least_of : AesSize → ℕ
 least_of size = 16 + tag_size_of size
 
--- Encryption is ciphertext stealing, with the checksum over the initial vector of zeros and the ciphertext (RFC 8009, section 5).
--- Test: `seal 19`, `seal 20`; `tag_over_plaintext`.
+-- Encryption is ciphertext stealing, with the checksum over the initial vector of zeros and the ciphertext (RFC 8009, section 5). Ke has as
+-- many octets as the key, 16 or 32. Test: `seal 19`, `seal 20`, `derive 19`, `derive 20`; `tag_over_plaintext`.
 abbrev pub aes_sha2_profile : AesSize → Profile
 aes_sha2_profile size = record {
   key_size = key_length_of size;

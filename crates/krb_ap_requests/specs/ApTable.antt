@@ -4,6 +4,7 @@ use Rattle.std.specs.Int.{cast_unsigned, w32}
 use Rattle.std.specs.Option.{option_map_or}
 use Rattle.picky_asn1.specs.BitString.{bit_of}
 use Rattle.asn1_leaves.specs.GeneralizedTime.{seconds_of}
+use Rattle.asn1_leaves.specs.declared.date.GeneralizedTime.{GeneralizedTime}
 use Rattle.krb_constants.specs.declared.key_usages.TheConstants.{AP_REQ_AUTHENTICATOR}
 use Rattle.krb_crypto.specs.declared.suite.CipherSuite.{CipherSuite}
 use Rattle.krb_crypto.specs.Suites.{cipher_number}
@@ -25,7 +26,7 @@ use Rattle.picky_asn1.specs.Bytes.{Bytes}
 use Rattle.decision_tables.specs.Tables.{Table, done, ask, and_then, need, refuse}
 use Rattle.krb_time.specs.Skew.{is_before}
 use Rattle.krb_time.specs.Times.{moment_at}
-use Rattle.krb_time.specs.Units.{Micros, Seconds}
+use Rattle.krb_time.specs.Units.{Micros}
 use Rattle.krb_ap_requests.specs.Entry.{EntryRecord}
 use Rattle.krb_ap_requests.specs.Messages.{IsAuthenticator, IsTicketPart, sole_authenticator, sole_ticket_part}
 use Rattle.krb_ap_requests.specs.declared.presented.Authenticated.{Authenticated}
@@ -79,13 +80,13 @@ for_service realm name suite kvno request =
     refuse (not (is_number (cipher_number suite) (enc_part_in request).etype.0)) KRB_AP_ERR_NOKEY
     (done (Ok tt))))
 
--- the second in which a ticket starts: where it doesn't tell one, that of the client's first ticket
-abbrev pub ticket_start : EncTicketPartInner → Seconds
-ticket_start part = option_map_or (λ tagged. seconds_of tagged.0.0) part.starttime.0 (seconds_of part.auth_time.0.0)
+-- a ticket's start: its starttime, or its authtime where it has no starttime (RFC 4120, section 5.3)
+abbrev pub starttime_of : EncTicketPartInner → GeneralizedTime
+starttime_of part = option_map_or (λ tagged. tagged.0.0) part.starttime.0 part.auth_time.0.0
 
 -- the ticket starts later than the moment and the skew, or its flag invalid is set (RFC 4120, section 2.2)
 abbrev pub is_early : Micros → Micros → EncTicketPartInner → Bool
-is_early skew moment part = is_before skew moment (ticket_start part * 1000000) || bit_of part.flags.0 INVALID
+is_early skew moment part = is_before skew moment (seconds_of (starttime_of part) * 1000000) || bit_of part.flags.0 INVALID
 
 -- the moment is past the ticket's end and the skew
 abbrev pub is_late : Micros → Micros → EncTicketPartInner → Bool

@@ -3,8 +3,7 @@ ghost use Rattle.std.specs.Prelude.{◌≡◌};
 ghost use Rattle.krb_crypto.specs.Suites.{cipher_number};
 ghost use Rattle.krb_types.specs.Names.{components};
 ghost use Rattle.krb_types.specs.Refusals.{IsJudged};
-ghost use Rattle.krb_ap_requests.specs.ApTable.{for_service, ap_fields, authenticated, enc_part_in, is_early, is_for, is_late, is_of_client, is_version_5, kvno_fits, opened, opened_part, presented_with, ticket_in, ticket_start, timely, authenticator_time, valid_authenticator, valid_part};
-ghost use Rattle.asn1_leaves.specs.GeneralizedTime.{seconds_of};
+ghost use Rattle.krb_ap_requests.specs.ApTable.{for_service, ap_fields, authenticated, enc_part_in, is_early, is_for, is_late, is_of_client, is_version_5, kvno_fits, opened, opened_part, presented_with, starttime_of, ticket_in, timely, authenticator_time, valid_authenticator, valid_part};
 ghost use Rattle.std.specs.Int.{cast_unsigned, w32};
 ghost use Rattle.krb_time.specs.Skew.{IsWithinDay};
 
@@ -158,9 +157,9 @@ pub fn check_times(skew: u64, moment: Moment, part: &EncTicketPartInner) -> Resu
     Ok(())
 }
 
-// Returns the ticket's starttime, or its authtime where it has no starttime.
-fn start_of(part: &EncTicketPartInner) -> GeneralizedTime
-    ensures { seconds_of result ≡ ticket_start part.now }
+/// Returns the ticket's starttime, or its authtime where it has no starttime (RFC 4120, section 5.3).
+pub fn starttime_of(part: &EncTicketPartInner) -> GeneralizedTime
+    ensures { result ≡ starttime_of part.now }
 {
     match &part.starttime.0 {
         Some(tagged) => tagged.0.0,
@@ -173,7 +172,7 @@ fn is_early(skew: u64, moment: Moment, part: &EncTicketPartInner) -> bool
     requires { IsWithinDay skew }
     ensures { result ≡ is_early skew moment part.now }
 {
-    moment.is_before(start_of(part), skew) || part.flags.0.bit(ticket_flags::INVALID)
+    moment.is_before(starttime_of(part), skew) || part.flags.0.bit(ticket_flags::INVALID)
 }
 
 // Whether the moment is later than the ticket's endtime and the skew.

@@ -27,7 +27,7 @@ use Rattle.pkinit_interface.specs.Rows.{PkinitRows}
 use Rattle.krb_as.specs.AsTable.{as_table, authenticated, authenticated_by, is_later, is_listed, possible, timestamped}
 use Rattle.krb_kdc_requests.specs.Call.{CallRecord, pkinit_call, skew_of}
 use Rattle.krb_kdc_requests.specs.Calls.{IsCall, IsKeyed}
-use Rattle.krb_as.specs.Grants.{Principals, first_ticket, granted}
+use Rattle.krb_as.specs.Grants.{Principals, granted, initial_grant}
 use Rattle.krb_kdc_requests.specs.Requests.{header_rows, client_of, padata_in, lasting, service_of}
 use Rattle.krb_kdc_requests.specs.declared.span.Span.{Span}
 use Rattle.krb_kdc_requests.proofs.HasGrant.{has_header, has_lasting, has_replied}
@@ -126,10 +126,10 @@ module _ (call : CallRecord) (rows : PkinitRows) (of_client of_service : Option 
 
   module _ (is : IsCall call) (n : ℕ) (few : n < 2 ^ 64) (fits : Fits n (kdc_req_inner_tree request)) where
     -- what it is granted can be written
-    first_written : (principals : Principals) (span : Span) → (header_rows 10 call.realm request).gives (Ok tt) → AreAsked principals → IsWritten As (first_ticket call principals request.req_body.0 span)
+    first_written : (principals : Principals) (span : Span) → (header_rows 10 call.realm request).gives (Ok tt) → AreAsked principals → IsWritten As (initial_grant call principals request.req_body.0 span)
     first_written principals span to_us these =
         let body = body_fits n request fits in
-        is_written n (first_ticket call principals request.req_body.0 span)
+        is_written n (initial_grant call principals request.req_body.0 span)
         (record {
           few = few;
           session = session_short principals.client.suite call.words is.enough is.bytes;
@@ -147,8 +147,8 @@ module _ (call : CallRecord) (rows : PkinitRows) (of_client of_service : Option 
         (has_authenticated call rows principals.client (components principals.client_name) request)
         (λ under x.
         let is_under = under_by call rows principals.client (components principals.client_name) request these.client (first_of 16 (padata_in request)) under x in
-        has_replied (first_ticket call principals request.req_body.0 span) under principals.service call.words is_under.sized is_under.bytes these.service is.enough is.bytes
-        (subst (λ (e : Exchange). IsWritten e (first_ticket call principals request.req_body.0 span)) (sym is_under.exchange) (first_written principals span to_us these))))
+        has_replied (initial_grant call principals request.req_body.0 span) under principals.service call.words is_under.sized is_under.bytes these.service is.enough is.bytes
+        (subst (λ (e : Exchange). IsWritten e (initial_grant call principals request.req_body.0 span)) (sym is_under.exchange) (first_written principals span to_us these))))
 
     pub has_as_outcome : ((client : AccountRecord) → of_client ≡ Some client → IsKeyed client) → ((service : AccountRecord) → of_service ≡ Some service → IsKeyed service)
         → HasOutcome (as_table call rows of_client of_service request)

@@ -39,7 +39,8 @@ is_listed suite body = list_any (λ etype. is_number (cipher_number suite) etype
 -- the ticket's times, and its suite as the client's `etype` has to list it
 abbrev pub possible : CallRecord → CipherSuite → KdcReqBody → Table (Result Span Code)
 possible call suite body =
-    -- `from` isn't later than now plus the clock skew (RFC 4120, section 3.1.3). Test: `as from edges`.
+    -- `from` isn't later than now plus the clock skew (RFC 4120, section 3.1.3). Test: `granted, from at skew`,
+    -- `from past skew, right PA-PK-AS-REQ` of `pkinit_exchanges.txt`.
     refuse (is_later call body) KDC_ERR_CANNOT_POSTDATE
     (and_then (lasting call.settings.lifetime call.moment None body) (λ span.
     -- `etype` lists the encryption type of the client's key (RFC 4120, section 3.1.3). Test: `as etype list` of `five_suites.txt`.
@@ -57,7 +58,8 @@ timestamped call client padata =
     ask (IsEncryptedTimestamp client value) (sole_encrypted_timestamp client value) (done (Err KDC_ERR_PREAUTH_FAILED)) (λ timestamp.
     -- `pausec` is from 0 to 999,999; a missing one is 0 (RFC 4120, section 5.2.4). Test: `as microseconds`.
     need (moment_of timestamp) KDC_ERR_PREAUTH_FAILED (λ time.
-    -- Clock skew: `patimestamp` differs from now by the skew at most (RFC 4120, section 5.2.7.2). Test: `as skew edges`, `as skew far`.
+    -- Clock skew: `patimestamp` and `pausec` differ from now by the skew at most (RFC 4120, section 5.2.7.2). Test: `as skew edges`,
+    -- `as skew far`.
     refuse (is_far (skew_of call) call.moment time) KRB_AP_ERR_SKEW
     (done (Ok tt)))))
 
@@ -74,7 +76,8 @@ authenticated_by call rows client name request (Some padata) =
 abbrev pub authenticated : CallRecord → PkinitRows → AccountRecord → List Bytes → KdcReq → Table (Result ReplyKeyRecord Code)
 authenticated call rows client name request =
     -- Padata PA-PK-AS-REQ wins over PA-ENC-TIMESTAMP; of several the first counts (RFC 4556, section 3.2.2). Test:
-    -- `as PA-PK-AS-REQ alone`, `as PA-PK-AS-REQ and PA-ENC-TIMESTAMP`.
+    -- `as PA-PK-AS-REQ alone`, `as PA-PK-AS-REQ and PA-ENC-TIMESTAMP`; `granted, second PA-PK-AS-REQ unreadable` of
+    -- `pkinit_exchanges.txt`.
     authenticated_by call rows client name request (first_of PA_PK_AS_REQ (padata_in request))
 
 -- the whole table, for the accounts of client and service if they have one

@@ -32,20 +32,20 @@ principals_of these = record {
 }
 
 -- the first ticket: a session key of the client's suite, the flags initial and pre-authent, and the request's names and nonce
-abbrev pub first_ticket : CallRecord → Principals → KdcReqBody → Span → GrantRecord
-first_ticket call principals body span = record {
+abbrev pub initial_grant : CallRecord → Principals → KdcReqBody → Span → GrantRecord
+initial_grant call principals body span = record {
   suite = principals.client.suite;
   session = session_key_of principals.client.suite call.words;
   realm = call.realm;
   client = principals.client_name;
   service = principals.service_name;
   flags = record { initial = true; pre_authenticated = true };
-  auth_time = span.start;
-  start = span.start;
-  until = span.until;
+  auth_time = span.starttime;
+  starttime = span.starttime;
+  endtime = span.endtime;
   nonce = body.nonce.0;
 }
 
 -- the reply that grants the first ticket
 abbrev pub granted : CallRecord → Principals → ReplyKeyRecord → Span → KdcReqBody → Table (Result Bytes Code)
-granted call principals under span body = replied (first_ticket call principals body span) under principals.service call.words
+granted call principals under span body = replied (initial_grant call principals body span) under principals.service call.words

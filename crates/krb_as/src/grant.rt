@@ -4,7 +4,7 @@ ghost use Rattle.krb_types.specs.RandomBytes.{AreEnoughForReply};
 ghost use Rattle.krb_tickets.specs.ReplyKeys.{reply_key_of};
 ghost use Rattle.krb_as.specs.Preauthentication.{reply_key_by};
 ghost use Rattle.krb_kdc_requests.specs.Call.{call_of};
-ghost use Rattle.krb_as.specs.Grants.{first_ticket, granted, principals_of};
+ghost use Rattle.krb_as.specs.Grants.{granted, initial_grant, principals_of};
 ghost use Rattle.krb_tickets.specs.Grant.{grant_of};
 
 use crate::judge::Preauthentication;
@@ -40,7 +40,7 @@ pub(crate) fn grant(
     requires { AreEnoughForReply call.now.words.now }
     ensures { IfOk result (λ bytes. (granted (call_of call.now) (principals_of principals.entry) (reply_key_by principals.entry.client.now authenticated.now) span body.now).gives (Ok bytes.items)) }
 {
-    let grant = first_ticket(alloc, call, principals, span, body)?;
+    let grant = initial_grant(alloc, call, principals, span, body)?;
     let under = reply_key_by(authenticated, principals.client);
     let made = ticket_reply(alloc, &grant, &under, principals.service, call.words);
     drop(grant);
@@ -58,7 +58,7 @@ fn reply_key_by<'a>(authenticated: &'a Preauthentication, client: &'a Account) -
 }
 
 // Makes what the first ticket is granted with: a session key of the client's suite, and the request's names and nonce.
-fn first_ticket<'a>(
+fn initial_grant<'a>(
     alloc: Global,
     call: &Call<'a>,
     principals: Principals<'a>,
@@ -66,7 +66,7 @@ fn first_ticket<'a>(
     body: &'a KdcReqBody,
 ) -> Result<Grant<'a>, AllocError>
     requires { AreEnoughForReply call.now.words.now }
-    ensures { IfOk result (λ grant. grant_of grant ≡ first_ticket (call_of call.now) (principals_of principals.entry) body.now span) }
+    ensures { IfOk result (λ grant. grant_of grant ≡ initial_grant (call_of call.now) (principals_of principals.entry) body.now span) }
 {
     let suite = principals.client.suite();
     let session = session_key(alloc, suite, call.words)?;
@@ -80,9 +80,9 @@ fn first_ticket<'a>(
             initial: true,
             pre_authenticated: true,
         },
-        auth_time: span.start,
-        start: span.start,
-        until: span.until,
+        auth_time: span.starttime,
+        starttime: span.starttime,
+        endtime: span.endtime,
         nonce: &body.nonce.0,
     })
 }

@@ -31,7 +31,8 @@ sole_as_part suite key sealed = sole_sealed enc_as_rep_part_tree enc_as_rep_part
 abbrev pub takes_sealed : ClientRecord → KeyRecord → AsAskedRecord → KdcRep → Table Taken
 takes_sealed client key asked reply =
     -- The enc-part decrypts under the reply key for key usage 3, to an EncASRepPart or an EncTGSRepPart; its kvno isn't compared (RFC 4120,
-    -- sections 3.1.5, 5.4.2). Test: `exchange_tag` of `logins.txt`; `take_as_reply key number`, `00 behind` of `clients.txt`.
+    -- sections 3.1.5, 5.4.2). Test: `exchange_tag` of `logins.txt`; `take_as_reply key number`, `00 behind` of `clients.txt`;
+    -- `e@R, usage 8`, `a@R, sealed under the account's key` of `pkinit_steps.txt`.
     ask (IsAsPart key.suite key.bytes reply.enc_part.0) (sole_as_part key.suite key.bytes reply.enc_part.0)
     -- Where it is no EncASRepPart it may be an EncTGSRepPart (RFC 4120, section 5.4.2). Test: `exchange_tag` of `logins.txt`.
     (ask (IsTgsPart key.suite key.bytes (cast_unsigned w32 AS_REP_ENC) reply.enc_part.0) (sole_tgs_part key.suite key.bytes (cast_unsigned w32 AS_REP_ENC) reply.enc_part.0) (done (Err NotSealed)) (takes_part client asked.service asked.nonce reply))
@@ -40,7 +41,8 @@ takes_sealed client key asked reply =
 -- what the client takes of a reply that was read, by its means
 abbrev pub takes_reply : ClientRecord → MeansRecord → AsAskedRecord → KdcRep → Table Taken
 takes_reply client means asked reply =
-    -- The reply's pvno is 5, and its msg-type is KRB_AS_REP (RFC 4120, section 5.4.2). Test: `take_as_reply msg-type` of `clients.txt`.
+    -- The reply's pvno is 5, and its msg-type is KRB_AS_REP (RFC 4120, section 5.4.2). Test: `take_as_reply pvno`, `take_as_reply msg-type`
+    -- of `changed_replies.txt`.
     refuse (not (is_of_type AS_REP_MSG_TYPE reply.pvno.0 reply.msg_type.0)) Unreadable
     (and_then (means.reply_key client asked reply) (λ key.
     takes_sealed client key asked reply))

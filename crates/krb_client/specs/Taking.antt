@@ -24,12 +24,14 @@ use Rattle.krb_client.specs.declared.refusal.TakeRefusal.TheVariants.{NotAsked, 
 -- the bytes as they come: they are an error, or a reply, which the following cases read
 abbrev pub takes_message : {A T : Type 0} (bytes : Bytes) (IsReply : A → Type 0) → IsSole IsReply → (A → Table (Result T TakeRefusal)) → Table (Result T TakeRefusal)
 takes_message bytes IsReply sole rest =
+    -- The bytes are the DER encoding of one KRB-ERROR, AS-REP, TGS-REP or AP-REP (RFC 4120, sections 5.4.2, 5.5.2, 5.9.1). Test:
+    -- `cut_reply` of `logins.txt`.
+    ask (IsErrorCode bytes) (sole_error_code bytes)
+    -- A reply is of the type that the client asked for (RFC 4120, sections 3.1.5, 3.2.5, 3.3.4). Test: `e@R, first byte 6D` of
+    -- `pkinit_steps.txt`.
+    (ask IsReply sole (done (Err Unreadable)) rest)
     -- A KRB-ERROR is refused with its error-code; its pvno and msg-type aren't judged (RFC 4120, section 3.1.6). Test:
     -- `take_as_reply KRB-ERROR` of `clients.txt`.
-    ask (IsErrorCode bytes) (sole_error_code bytes)
-    -- The bytes are the DER encoding of one AS-REP, TGS-REP or AP-REP, as the client asked for (RFC 4120, sections 5.4.2, 5.5.2). Test:
-    -- `cut_reply` of `logins.txt`.
-    (ask IsReply sole (done (Err Unreadable)) rest)
     (λ code. done (Err (Refused code)))
 
 -- the message says that it is of version 5, and of this type (RFC 4120, section 5.10)

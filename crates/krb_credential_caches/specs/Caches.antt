@@ -42,7 +42,8 @@ pub record Cache : Type 0 where
   pub default_principal : Principal
   pub credentials : List Credential
 
--- A tag is its number and the length of its data, of 16 bits each, and the data ("Header format"). Test: `header tags` of `caches.txt`.
+-- A tag is its number and the length of its data, of 16 bits each, and the data (MIT's file credential cache format, "Header format").
+-- Test: `header tags` of `caches.txt`.
 abbrev pub header_tag : Format Tag
 header_tag = made (λ v. record { kind = v.0; octets = v.1 }) (λ t. (t.kind, t.octets)) (both number16 (counted number16 length exactly))
 
@@ -50,7 +51,8 @@ header_tag = made (λ v. record { kind = v.0; octets = v.1 }) (λ t. (t.kind, t.
 abbrev pub header : Format (List Tag)
 header = counted number16 (λ tags. length (list_bytes header_tag tags [])) (within header_tag)
 
--- A principal is its name type, the count of its components, the realm and the components ("Principal format"). Test: `stock caches`.
+-- A principal is its name type, the count of its components, the realm and the components (MIT's file credential cache format, "Principal
+-- format"). Test: `stock caches`.
 abbrev pub principal : Format Principal
 principal =
     made (λ v. record { name_type = v.0; realm = v.1.0; components = v.1.1 }) (λ p. (p.name_type, (p.realm, p.components)))
@@ -95,7 +97,9 @@ credential_of v = record {
 abbrev pub parts_of : Credential → (Principal × (Principal × Typed)) × ((CredentialTimes × (ℕ × ℕ)) × (List Typed × (List Typed × (List ℕ × List ℕ))))
 parts_of c = ((c.client, (c.server, c.key)), ((c.times, (c.is_skey, c.flags)), (c.addresses, (c.authorization_data, (c.ticket, c.second_ticket)))))
 
--- A credential is these three parts ("Credential format"). Test: `stock caches`; `cut at each field`.
+-- A credential begins with the client, the server and the key. Behind them are the times, whether the key is a session key, and the ticket
+-- flags. Addresses, authorization data, the ticket and the second ticket end it (MIT's file credential cache format, "Credential format").
+-- Test: `stock caches`; `cut at each field`.
 abbrev pub credential : Format Credential
 credential = made credential_of parts_of (both parties (both facts contents))
 

@@ -49,8 +49,8 @@ hint_of_entries suites entries =
     -- The suite is the one of the entry's etype (RFC 4120, section 5.2.7.5). Test: `mit aes256`, `heimdal aes256` of `hints.txt`.
     need (suite_among suites entry.etype.0) NoSuite (λ suite.
     -- The entry's s2kparams, if any, are the suite's own: the iteration count, big-endian in four octets, or of triple DES nothing (RFC 3962,
-    -- section 4; RFC 8009, section 4; RFC 3961, section 6.3). Test: `own parameters aes256`, `own parameters des3`, `other rounds`,
-    -- `rounds of triple DES` of `hints.txt`.
+    -- section 4; RFC 8009, section 4; RFC 3961, section 6.3). Test: `own parameters aes256`, `own parameters aes256 sha2`,
+    -- `own parameters des3`, `other rounds`, `other rounds of SHA-2`, `rounds of triple DES` of `hints.txt`.
     refuse (not (has_own_parameters suite entry)) OtherParameters
     (done (Ok (hint_by suite entry)))))
 
@@ -61,11 +61,12 @@ hint_of_info suites info =
     ask (IsEtypeInfo2 info) (sole_etype_info2 info) (done (Err NoHint)) (hint_of_entries suites)
 
 -- What METHOD-DATA says of a key of one of the suites.
--- Ignored: padata of other types, as PA-ETYPE-INFO, PA-PW-SALT and PA-FX-COOKIE (RFC 4120, sections 3.1.3, 5.2.7.3). Test: `mit aes256`,
--- `heimdal aes256` of `hints.txt`.
+-- Ignored: padata of other types, as PA-ETYPE-INFO, PA-PW-SALT and PA-FX-COOKIE (RFC 4120, sections 3.1.3, 5.2.7.3, 5.2.7.4; RFC 6113,
+-- section 5.2). Test: `mit aes256`, `heimdal aes256` of `hints.txt`.
 abbrev pub hint_of_methods : List CipherSuite → List PaData → Table Hinted
 hint_of_methods suites methods =
-    -- METHOD-DATA has PA-ETYPE-INFO2, of which the first counts (RFC 4120, section 5.2.7.5). Test: `no info` of `hints.txt`.
+    -- METHOD-DATA has PA-ETYPE-INFO2, of which the first counts (RFC 4120, section 5.2.7.5). Test: `no info`, `damaged info first` of
+    -- `hints.txt`.
     need (first_of PA_ETYPE_INFO2 methods) NoHint (hint_of_info suites)
 
 -- What the e-data of an error says of a key of one of the suites.
@@ -91,7 +92,8 @@ error_hint suites bytes =
 
 -- The padata of an AS reply may name the salt of the client's key. Without PA-ETYPE-INFO2 the salt is the default one (RFC 4120, section
 -- 5.2.7.5).
--- Test: `reply without padata`, `reply, entry of another suite`, `reply, other rounds`, `reply, damaged info` of `hints.txt`.
+-- Test: `mit reply aes256`, `reply without padata`, `reply, entry of another suite`, `reply, other rounds`, `reply, damaged info` of
+-- `hints.txt`.
 -- Not judged: that there is exactly one entry (RFC 4120, section 5.2.7.5). Test: `reply, two entries` of `hints.txt`.
 abbrev pub hint_of_padata : CipherSuite → Option Bytes → Table Hinted
 hint_of_padata suite None = done (Ok (record { suite = suite; salt = None }))

@@ -38,7 +38,8 @@ front_of stream =
     if nat_lt 0 (length stream) then
     -- The stream doesn't end inside a length (RFC 4120, section 7.2.2). Test: `serve` of `realms.txt`.
     (if nat_lt (length stream) 4 then Bad Truncated
-    -- A length is 65,536 at most (RFC 4120, section 7.2.2). Test: `serve` of `realms.txt`.
+    -- A length is 65,536 at most: a limit of this stack, below the high bit that RFC 4120, section 7.2.2, reserves. Test: `serve` of
+    -- `realms.txt`.
     else if nat_lt frame_limit (announced stream) then Bad FrameTooLong
     -- The stream doesn't end inside a message (RFC 4120, section 7.2.2). Test: `stops_at_the_first_fault`.
     else if nat_lt (length (drop 4 stream)) (announced stream) then Bad Truncated

@@ -98,15 +98,15 @@ module _ (replies : List ℕ → Micros → List ℕ → Option (List ℕ) → T
   abbrev pub StopsBy : Left → ServeFault → Left → Type 0
   StopsBy s Truncated new = (front_of s.stream ≡ Bad Truncated) × (new ≡ at s.moments [] s.words)
   StopsBy s FrameTooLong new = (front_of s.stream ≡ Bad FrameTooLong) × (new ≡ at s.moments (drop 4 s.stream) s.words)
-  -- Bytes that are no request end the run (RFC 4120, section 7.2.2). Test: `stops_at_the_first_fault`.
+  -- Bytes that are no request end the run. Test: `stops_at_the_first_fault`.
   StopsBy s NoRequest new = Asks replies s None new
   StopsBy s Read new = BreaksFrame s new ⊎ BreaksWords s new
   StopsBy s Write new = (reply : List ℕ) × Step replies s reply new
-  -- Each message takes the next 128 random bytes (RFC 4120, section 7.2.2). Test: `stops_at_the_first_fault`.
+  -- Each message takes the next 128 random bytes. Test: `stops_at_the_first_fault`.
   StopsBy s NoWords new = TakesMoment s new × (length s.words < words_needed) × (new.words ≡ [])
-  -- Each message takes the next moment, before its random bytes (RFC 4120, section 7.2.2). Test: `stops_at_the_first_fault`.
+  -- Each message takes the next moment, before its random bytes. Test: `stops_at_the_first_fault`.
   StopsBy s NoMoment new = (message : List ℕ) × (rest : List ℕ) × (front_of s.stream ≡ Whole message rest) × (s.moments ≡ []) × (new ≡ at [] rest s.words)
-  -- A reply of more than 65,536 bytes isn't written (RFC 4120, section 7.2.2). Test: `long_replies`.
+  -- A reply of more than 65,536 bytes isn't written: a limit of this stack. Test: `long_replies`.
   StopsBy s ReplyTooLong new = (reply : List ℕ) × Asks replies s (Some reply) new × (frame_limit < length reply)
   StopsBy s Memory new = LacksRoom s new ⊎ LacksAnswer s new ⊎ LacksFrame s new
   -- Where the accounts can't be read, the run ends, and the message gets no reply. Test: `stops_without_accounts`.

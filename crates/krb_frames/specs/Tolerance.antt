@@ -3,7 +3,8 @@ use Rattle.std.proofs.Common.{◌∙◌, ap, inl, inr, subst, sym}
 use Rattle.std.specs.Prelude.{◌≡◌, ◌⊎◌, ℕ, List, [], Option, None, Some, ⊤}
 use Rattle.krb_time.specs.Units.{Micros}
 
--- a message has its replies, and the empty one where it is no request. None is left without a reply
+-- Where it is tolerated, a message that is no request gets the empty reply, and the run goes on. Others have their replies. Test:
+-- `goes_on_by_empty_reply`.
 abbrev pub Tolerates : (List ℕ → Micros → List ℕ → Option (List ℕ) → Type 0) → List ℕ → Micros → List ℕ → Option (List ℕ) → Type 0
 Tolerates replies message moment words None = ⊥
 Tolerates replies message moment words (Some reply) = replies message moment words (Some reply) ⊎ ((reply ≡ []) × replies message moment words None)

@@ -82,9 +82,9 @@ least a b c = grind (arith)
 
 has_span : (lifetime moment : ℕ) (old : Option ℕ) (till : ℕ) → IsMoment moment → (span : Span) × IsSpan lifetime moment old till span
 has_span lifetime moment old till in_time =
-    let start = has_time (start_of moment) (omega arith) in
-    let until = has_time (end_of lifetime (start_of moment) old till) (least (asked_end till) (start_of moment + lifetime) (old_end old)) in
-    (record { start = start.0; until = until.0 }, record { starts = start.1; ends = until.1 })
+    let starttime = has_time (start_of moment) (omega arith) in
+    let endtime = has_time (end_of lifetime (start_of moment) old till) (least (asked_end till) (start_of moment + lifetime) (old_end old)) in
+    (record { starttime = starttime.0; endtime = endtime.0 }, record { starts = starttime.1; ends = endtime.1 })
 
 pub has_lasting : (lifetime moment : ℕ) (old : Option ℕ) (body : KdcReqBody) → IsMoment moment → HasOutcome (lasting lifetime moment old body)
 has_lasting lifetime moment old body in_time =

@@ -84,7 +84,7 @@ pub record AreFit (n : ℕ) (session realm : List ℕ) (name : PrincipalName) : 
   pub realm_name : Fits n (realm_tree realm)
   pub name_tree : Fits n (principal_name_tree name)
 
-module _ (n : ℕ) (suite : CipherSuite) (session realm : List ℕ) (name : PrincipalName) (fit : AreFit n session realm name) (octet : ℕ) (flags : octet < 256) (auth start until : GeneralizedTime) where
+module _ (n : ℕ) (suite : CipherSuite) (session realm : List ℕ) (name : PrincipalName) (fit : AreFit n session realm name) (octet : ℕ) (flags : octet < 256) (auth starttime endtime : GeneralizedTime) where
   -- the part under the service's key
   abbrev pub ticket_tree : Tree
   ticket_tree =
@@ -96,8 +96,8 @@ module _ (n : ℕ) (suite : CipherSuite) (session realm : List ℕ) (name : Prin
       (more (wrapped 163 (principal_name_tree name))
       (more (wrapped 164 (constructed 48 (more (wrapped 160 (integer_tree (pos 1))) (more (wrapped 161 (primitive 4 [])) none))))
       (more (wrapped 165 (time_tree auth))
-      (more (wrapped 166 (time_tree start))
-      (more (wrapped 167 (time_tree until)) none)))))))))
+      (more (wrapped 166 (time_tree starttime))
+      (more (wrapped 167 (time_tree endtime)) none)))))))))
 
   pub ticket_fits : Fits (n + n + 354) ticket_tree
   ticket_fits =
@@ -110,8 +110,8 @@ module _ (n : ℕ) (suite : CipherSuite) (session realm : List ℕ) (name : Prin
       (more_trees (n + 11) _ _ _ (fits_wrapped n 163 (principal_name_tree name) (omega arith) (omega arith) fit.name_tree)
       (more_trees 70 _ _ _ no_realms_fit
       (more_trees 37 _ _ _ (time_fits 165 auth (omega arith))
-      (more_trees 37 37 _ _ (time_fits 166 start (omega arith))
-      (one_tree 37 _ (time_fits 167 until (omega arith)))))))))))
+      (more_trees 37 37 _ _ (time_fits 166 starttime (omega arith))
+      (one_tree 37 _ (time_fits 167 endtime (omega arith)))))))))))
 
   -- the part under the reply key
   module _ (first : ℕ) (fits : first < 256) (nonce : ℤ) (nonce_fits : Fits n (integer_tree nonce)) where
@@ -120,12 +120,12 @@ module _ (n : ℕ) (suite : CipherSuite) (session realm : List ℕ) (name : Prin
         wrapped first
         (constructed 48
         (more (wrapped 160 (encryption_key_tree (encryption_key suite session)))
-        (more (wrapped 161 (constructed 48 (more (constructed 48 (more (wrapped 160 (integer_tree (pos 0))) (more (wrapped 161 (time_tree start)) none))) none)))
+        (more (wrapped 161 (constructed 48 (more (constructed 48 (more (wrapped 160 (integer_tree (pos 0))) (more (wrapped 161 (time_tree starttime)) none))) none)))
         (more (wrapped 162 (integer_tree nonce))
         (more (wrapped 164 (primitive 3 (0 ∷ 0 ∷ octet ∷ 0 ∷ 0 ∷ [])))
         (more (wrapped 165 (time_tree auth))
-        (more (wrapped 166 (time_tree start))
-        (more (wrapped 167 (time_tree until))
+        (more (wrapped 166 (time_tree starttime))
+        (more (wrapped 167 (time_tree endtime))
         (more (wrapped 169 (realm_tree realm))
         (more (wrapped 170 (principal_name_tree name)) none))))))))))
 
@@ -135,11 +135,11 @@ module _ (n : ℕ) (suite : CipherSuite) (session realm : List ℕ) (name : Prin
         looser (102 + (96 + ((n + 11) + (27 + (37 + (37 + (37 + ((n + 11) + (n + 11)))))))) + 22) (n + n + n + 391) _ (omega arith)
         (sequence_fits (102 + (96 + ((n + 11) + (27 + (37 + (37 + (37 + ((n + 11) + (n + 11))))))))) first _ fits (omega arith)
         (more_trees 102 _ _ _ (key_fits 160 suite session (omega arith) fit.session_key)
-        (more_trees 96 _ _ _ (last_fits start)
+        (more_trees 96 _ _ _ (last_fits starttime)
         (more_trees (n + 11) _ _ _ (fits_wrapped n 162 (integer_tree nonce) (omega arith) (omega arith) nonce_fits)
         (more_trees 27 _ _ _ (flags_fit 164 octet (omega arith) flags)
         (more_trees 37 _ _ _ (time_fits 165 auth (omega arith))
-        (more_trees 37 _ _ _ (time_fits 166 start (omega arith))
-        (more_trees 37 _ _ _ (time_fits 167 until (omega arith))
+        (more_trees 37 _ _ _ (time_fits 166 starttime (omega arith))
+        (more_trees 37 _ _ _ (time_fits 167 endtime (omega arith))
         (more_trees (n + 11) (n + 11) _ _ (fits_wrapped n 169 (realm_tree realm) (omega arith) (omega arith) fit.realm_name)
         (one_tree (n + 11) _ (fits_wrapped n 170 (principal_name_tree name) (omega arith) (omega arith) fit.name_tree)))))))))))

@@ -6,8 +6,8 @@ use Rattle.krb_tickets.specs.Times.{end_of, start_of}
 use Rattle.krb_kdc_requests.specs.Requests.{IsSpan, is_ended, lasting}
 use Rattle.krb_kdc_requests.specs.declared.span.Span.{Span}
 
-module _ (lifetime moment : ℕ) (old : Option ℕ) (body : KdcReqBody) (span : Span) (starts : seconds_of span.start ≡ start_of moment)
-    (ends : seconds_of span.until ≡ end_of lifetime (seconds_of span.start) old (seconds_of body.till.0.0)) where
+module _ (lifetime moment : ℕ) (old : Option ℕ) (body : KdcReqBody) (span : Span) (starts : seconds_of span.starttime ≡ start_of moment)
+    (ends : seconds_of span.endtime ≡ end_of lifetime (seconds_of span.starttime) old (seconds_of body.till.0.0)) where
   own : IsSpan lifetime moment old (seconds_of body.till.0.0) span
   own = record { starts = starts; ends = ends ∙ ap (λ n. end_of lifetime n old (seconds_of body.till.0.0)) starts }
 

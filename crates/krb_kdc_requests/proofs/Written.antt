@@ -71,14 +71,14 @@ module _ (n : ℕ) (grant : GrantRecord) (x : HoldsShort n grant) where
 
   ticket_bytes : IsBytes (ticket_part_bytes (ticket_part grant))
   unfolding ticket_part ticket_part_bytes
-  ticket_bytes = (ticket_fits n grant.suite grant.session grant.realm grant.client of_client (flags_octet grant.flags) below grant.auth_time grant.start grant.until).written.bytes
+  ticket_bytes = (ticket_fits n grant.suite grant.session grant.realm grant.client of_client (flags_octet grant.flags) below grant.auth_time grant.starttime grant.endtime).written.bytes
 
   reply_bytes : (exchange : Exchange) → IsBytes (reply_part_bytes exchange (reply_part grant))
   unfolding reply_part reply_part_bytes
   reply_bytes As =
-      (reply_fits n grant.suite grant.session grant.realm grant.service of_service (flags_octet grant.flags) below grant.auth_time grant.start grant.until 121 (omega arith) grant.nonce x.nonce).written.bytes
+      (reply_fits n grant.suite grant.session grant.realm grant.service of_service (flags_octet grant.flags) below grant.auth_time grant.starttime grant.endtime 121 (omega arith) grant.nonce x.nonce).written.bytes
   reply_bytes Tgs =
-      (reply_fits n grant.suite grant.session grant.realm grant.service of_service (flags_octet grant.flags) below grant.auth_time grant.start grant.until 122 (omega arith) grant.nonce x.nonce).written.bytes
+      (reply_fits n grant.suite grant.session grant.realm grant.service of_service (flags_octet grant.flags) below grant.auth_time grant.starttime grant.endtime 122 (omega arith) grant.nonce x.nonce).written.bytes
 
   pub is_written : (exchange : Exchange) → IsWritten exchange grant
   is_written exchange = record { ticket = ticket_bytes; reply = reply_bytes exchange }

@@ -75,19 +75,19 @@ header_rows message_type realm request =
 
 -- a ticket starts in the second of the moment; its endtime is at most the presented ticket's, in a TGS exchange
 pub record IsSpan (lifetime : Seconds) (moment : Micros) (old : Option Seconds) (till : Seconds) (span : Span) : Type 0 where
-  pub starts : seconds_of span.start ≡ start_of moment
-  pub ends : seconds_of span.until ≡ end_of lifetime (start_of moment) old till
+  pub starts : seconds_of span.starttime ≡ start_of moment
+  pub ends : seconds_of span.endtime ≡ end_of lifetime (start_of moment) old till
 
 -- a ticket has one starttime and one endtime
 pub sole_span : (lifetime : Seconds) (moment : Micros) (old : Option Seconds) (till : Seconds) → IsSole (IsSpan lifetime moment old till)
 sole_span lifetime moment old till a b x y = λ i. record {
-  start = seconds_of-injective a.start b.start (x.starts ∙ sym y.starts) i;
-  until = seconds_of-injective a.until b.until (x.ends ∙ sym y.ends) i;
+  starttime = seconds_of-injective a.starttime b.starttime (x.starts ∙ sym y.starts) i;
+  endtime = seconds_of-injective a.endtime b.endtime (x.ends ∙ sym y.ends) i;
 }
 
 -- the endtime isn't after the starttime
 abbrev pub is_ended : Span → Bool
-is_ended span = nat_le (seconds_of span.until) (seconds_of span.start)
+is_ended span = nat_le (seconds_of span.endtime) (seconds_of span.starttime)
 
 -- the seconds in which the ticket starts and ends
 abbrev pub lasting : Seconds → Micros → Option Seconds → KdcReqBody → Table (Result Span Code)

@@ -120,9 +120,9 @@ pub fn lasting(
 ) -> Result<Span, Refusal>
     ensures { IsJudged (lasting settings.lifetime moment (option_map seconds_of old) body.now).gives result }
 {
-    let start = start_of(moment);
-    let until = end_of(settings, start, old, body.till.0.0);
-    let span = Span { start, until };
+    let starttime = start_of(moment);
+    let endtime = end_of(settings, starttime, old, body.till.0.0);
+    let span = Span { starttime, endtime };
     if is_ended(span) {
         return Err(Refusal::Krb(error_codes::KDC_ERR_NEVER_VALID));
     }
@@ -133,7 +133,7 @@ pub fn lasting(
 fn is_ended(span: Span) -> bool
     ensures { result ≡ is_ended span }
 {
-    span.until.seconds() <= span.start.seconds()
+    span.endtime.seconds() <= span.starttime.seconds()
 }
 
 /// Makes a session key of this suite, of its seed among the random bytes.

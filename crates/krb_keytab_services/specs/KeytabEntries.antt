@@ -34,7 +34,7 @@ is_counted realm components key_record = is_record_of realm components key_recor
 unfoldable pub entry_of : Bytes → List Bytes → Entry → Option EntryRecord
 entry_of realm components key_record =
     -- A key record counts for a service of its realm and name, with a kvno from 1 on, and an etype that is that of a suite whose keys have
-    -- the key's length (RFC 4120, sections 5.2.9, 6.2). Test: `other records` of `keytab_rows.txt`.
+    -- the key's length (RFC 4120, sections 5.2.9, 6.2). Test: `other records`, `the keytab has no key of the service` of `keytab_rows.txt`.
     if is_counted realm components key_record
     then option_map (entry_with realm components key_record.kvno) (key_of key_record)
     else None

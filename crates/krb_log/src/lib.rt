@@ -11,8 +11,8 @@
 //! key and no sealed part is read. What is displayed of an entry is known (`entry_text`). Each name in it is printable ASCII without a
 //! blank, two components are shown alike only if they are the same (`laws`), and a name that is too long is shown as `(long)`.
 //!
-//! [`Logged`] is a responder that writes such a line on standard error before it returns the reply. Its replies are those of the responder
-//! within.
+//! [`Logged`] is a responder that writes such a line on standard error before it returns the reply, which no contract says. Its replies are
+//! those of the responder within.
 #![tactic(auto)]
 
 mod answer;

@@ -79,13 +79,13 @@ module _ (client : ClientRecord) (realm : RealmRecord) (service : ServiceRecord)
     grant = further_grant client realm login first span
 
     -- the ticket has begun
-    pub begun : seconds_of span.start * 1000000 ≤ clock + service.seen.skew
+    pub begun : seconds_of span.starttime * 1000000 ≤ clock + service.seen.skew
     begun =
         has_begun honest.near.start (common_skew realm service) service.seen.skew login.realm_tgs clock
-        honest.near.realm_tgs honest.near.clock least (seconds_of span.start) further_is.starts
+        honest.near.realm_tgs honest.near.clock least (seconds_of span.starttime) further_is.starts
 
     -- and hasn't ended
-    first_reaches : Reaches service.seen.skew clock (seconds_of first.until)
+    first_reaches : Reaches service.seen.skew clock (seconds_of first.endtime)
     first_reaches =
         reaches_first service.seen.skew clock realm.settings.lifetime login.realm_as login.till first first_is
         (reaches_asked honest.near.start (common_skew realm service) service.seen.skew login.realm_as clock
@@ -93,9 +93,9 @@ module _ (client : ClientRecord) (realm : RealmRecord) (service : ServiceRecord)
         (reaches_lifetime honest.near.start (common_skew realm service) service.seen.skew login.realm_as clock
         honest.near.realm_as honest.near.clock least realm.settings.lifetime longer)
 
-    pub further_reaches : Reaches service.seen.skew clock (seconds_of span.until)
+    pub further_reaches : Reaches service.seen.skew clock (seconds_of span.endtime)
     further_reaches =
-        reaches_end service.seen.skew clock realm.settings.lifetime login.realm_tgs (Some (seconds_of first.until)) login.till span further_is
+        reaches_end service.seen.skew clock realm.settings.lifetime login.realm_tgs (Some (seconds_of first.endtime)) login.till span further_is
         (reaches_asked honest.near.start (common_skew realm service) service.seen.skew login.realm_tgs clock
         honest.near.realm_tgs honest.near.clock least (asked_end (seconds_of login.till)) honest.lasting.further)
         (reaches_lifetime honest.near.start (common_skew realm service) service.seen.skew login.realm_tgs clock

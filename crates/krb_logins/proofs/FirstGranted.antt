@@ -27,7 +27,7 @@ use Rattle.krb_tickets.specs.ReplyKeys.{ReplyKeyRecord}
 use Rattle.krb_tickets.specs.Granted.{IsTicketReply}
 use Rattle.krb_as.specs.AsTable.{as_table, authenticated, is_later, is_listed, possible}
 use Rattle.krb_kdc_requests.specs.Call.{CallRecord}
-use Rattle.krb_as.specs.Grants.{Principals, first_ticket, granted}
+use Rattle.krb_as.specs.Grants.{Principals, granted, initial_grant}
 use Rattle.krb_kdc_requests.specs.Requests.{IsSpan, account_of, header_rows, client_of, is_ended, lasting, service_of}
 use Rattle.krb_types.specs.TicketGranting.{krbtgt_of}
 use Rattle.krb_kdc_requests.specs.declared.span.Span.{Span}
@@ -78,7 +78,7 @@ record IsGrantedBy (IsKey : ReplyKeyRecord → Type 0) (call : CallRecord) (aske
   under : ReplyKeyRecord
   is_key : IsKey under
   bytes : Bytes
-  replied : IsTicketReply (first_ticket call asked body span) under asked.service call.words bytes
+  replied : IsTicketReply (initial_grant call asked body span) under asked.service call.words bytes
   is : r ≡ Ok bytes
 
 -- the rows, from the last one on

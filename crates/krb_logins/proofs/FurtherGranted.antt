@@ -53,7 +53,7 @@ use Rattle.krb_messages.specs.Bodies.{body_bytes}
 use Rattle.krb_types.specs.TicketGranting.{krbtgt_of}
 use Rattle.krb_kdc_requests.specs.declared.span.Span.{Span}
 use Rattle.krb_tgs.specs.TgsTable as table
-use Rattle.krb_tgs.specs.TgsTable.{carried, counting, covered, further, further_ticket, is_known_checksum, is_of_body, of_carried, of_authenticated, of_ticket, authenticated_near, tgs_granted, tgs_table, ticket_granting, to_us}
+use Rattle.krb_tgs.specs.TgsTable.{carried, client_and_times, covered, further, is_known_checksum, is_of_body, of_carried, of_authenticated, of_ticket, authenticated_near, tgs_granted, tgs_table, ticket_granting, to_us}
 use Rattle.krb_replies.specs.Replies.{Replies, as_reply, reply_of, tgs_reply}
 use Rattle.krb_client.specs.Authenticators.{IsApRequest, authenticator_with, authenticator_parts_of}
 use Rattle.krb_client.specs.Client.{ClientRecord, CredentialRecord}
@@ -95,11 +95,11 @@ further_lasts lifetime moment old till span before long later is =
     least_of (asked_end (seconds_of till)) (min (moment / 1000000 + lifetime) (min old last_second)) (moment / 1000000) asked
     (least_of (moment / 1000000 + lifetime) (min old last_second) (moment / 1000000) (omega (arith, long))
     (least_of old last_second (moment / 1000000) later (omega (arith, asked, last)))) in
-    lt-leb (seconds_of span.until) (seconds_of span.start) (omega (arith, is.starts, is.ends, end))
+    lt-leb (seconds_of span.endtime) (seconds_of span.starttime) (omega (arith, is.starts, is.ends, end))
 
 -- the first ticket lasts past the second of each later moment of the login that lies before the end that is asked for
 first_outlasts : (start skew lifetime granted later : ℕ) (till : GeneralizedTime) (span : Span) → start ≤ granted → later ≤ start + skew → skew + 1000000 ≤ lifetime * 1000000
-    → later < asked_end (seconds_of till) * 1000000 → IsSpan lifetime granted None (seconds_of till) span → later / 1000000 < seconds_of span.until
+    → later < asked_end (seconds_of till) * 1000000 → IsSpan lifetime granted None (seconds_of till) span → later / 1000000 < seconds_of span.endtime
 first_outlasts start skew lifetime granted later till span begun near_by longer before is =
     let last : asked_end (seconds_of till) ≤ last_second = asked_below (seconds_of till) (omega (arith, second_below till)) in
     let asked : later / 1000000 < asked_end (seconds_of till) = omega (arith, before) in
@@ -255,12 +255,12 @@ module _ (client : ClientRecord) (means : MeansRecord) (realm : RealmRecord) (ro
   realm_is = subst (λ name. is_general_string name ≡ true) met.honest.named.client (realm_text client.realm met.parties.realm)
 
   -- the first ticket counts
-  counts : (counting call (ticket_part old)).gives (Ok tt)
+  counts : (client_and_times call (ticket_part old)).gives (Ok tt)
   unfolding ticket_part
   counts =
       let begun =
       has_begun met.honest.near.start (common_skew realm service) (skew_of call) login.realm_as login.realm_tgs met.honest.near.realm_as met.honest.near.realm_tgs
-      least (seconds_of first.start) first_is.starts in
+      least (seconds_of first.starttime) first_is.starts in
       let reaches =
       reaches_first (skew_of call) login.realm_tgs realm.settings.lifetime login.realm_as login.till first first_is
       (reaches_asked met.honest.near.start (common_skew realm service) (skew_of call) login.realm_as login.realm_tgs met.honest.near.realm_as met.honest.near.realm_tgs
@@ -275,7 +275,7 @@ module _ (client : ClientRecord) (means : MeansRecord) (realm : RealmRecord) (ro
   -- the service ticket isn't ended
   not_ended : (span : Span) → IsFurtherSpan realm login first span → is_ended span ≡ false
   not_ended span is =
-      further_lasts realm.settings.lifetime login.realm_tgs (seconds_of first.until) login.till span met.honest.lasting.further
+      further_lasts realm.settings.lifetime login.realm_tgs (seconds_of first.endtime) login.till span met.honest.lasting.further
       (a_second (common_skew realm service) realm.settings.lifetime met.honest.lasting.lifetime)
       (first_outlasts met.honest.near.start (common_skew realm service) realm.settings.lifetime login.realm_as login.realm_tgs login.till first
       met.honest.near.realm_as.begun met.honest.near.realm_tgs.lasts longer met.honest.lasting.further first_is) is
@@ -394,7 +394,7 @@ module _ (client : ClientRecord) (means : MeansRecord) (realm : RealmRecord) (ro
           × IsTicketReply (further_grant client realm login first span) (tgs_reply_key client.suite session) met.honest.service.account login.realm_words_tgs bytes × (r ≡ Ok bytes))
 
       abbrev under_key : Span → CipherSuite → ReplyKeyRecord → Table (Result Bytes ℕ)
-      under_key span suite under = replied (further_ticket call (ticket_part old) (principal_name 2 login.service) suite body span) under met.honest.service.account call.words
+      under_key span suite under = replied (table.further_grant call (ticket_part old) (principal_name 2 login.service) suite body span) under met.honest.service.account call.words
 
       abbrev in_suite : Span → CipherSuite → Table (Result Bytes ℕ)
       in_suite span suite =
@@ -418,8 +418,8 @@ module _ (client : ClientRecord) (means : MeansRecord) (realm : RealmRecord) (ro
           let a = past_refuse {T = Bytes} {E = ℕ} (not (is_some (realm.look client.components))) 6 (need (service_of body) 7 by_name) r (ap (λ o. not (is_some o)) met.honest.client.found) x in
           let b = past_need {T = Bytes} {E = ℕ} (service_of body) 7 by_name (principal_name 2 login.service) r refl a in
           let c = past_need {T = Bytes} {E = ℕ} (realm.look login.service) 7 to_service met.honest.service.account r service_found b in
-          let d = past_found {A = Span} {T = Bytes} (IsFurtherSpan realm login first) (lasting realm.settings.lifetime login.realm_tgs (Some (seconds_of first.until)) body) in_span r
-          (found_lasting realm.settings.lifetime login.realm_tgs (Some (seconds_of first.until)) body not_ended) c in
+          let d = past_found {A = Span} {T = Bytes} (IsFurtherSpan realm login first) (lasting realm.settings.lifetime login.realm_tgs (Some (seconds_of first.endtime)) body) in_span r
+          (found_lasting realm.settings.lifetime login.realm_tgs (Some (seconds_of first.endtime)) body not_ended) c in
           let e = past_need {T = Bytes} {E = ℕ} (table.first_known (pos (cipher_number client.suite) ∷ [])) 14 (in_suite d.0) client.suite r (own_first client.suite) d.2 in
           (d.0, d.1, (e.0, e.1, e.2))
 

@@ -16,18 +16,18 @@ use Rattle.krb_logins.proofs.LastSecond.{second_below}
 use Rattle.krb_logins.proofs.Times.{asked_below}
 
 -- a ticket that has begun at the moment and the skew isn't early
-pub not_early : (grant : GrantRecord) (skew moment : Micros) → seconds_of grant.start * 1000000 ≤ moment + skew → is_early skew moment (ticket_part grant) ≡ false
+pub not_early : (grant : GrantRecord) (skew moment : Micros) → seconds_of grant.starttime * 1000000 ≤ moment + skew → is_early skew moment (ticket_part grant) ≡ false
 unfolding ticket_part
 not_early grant skew moment begun =
-    or_from (nat_lt (moment + skew) (seconds_of grant.start * 1000000)) false (le-ltb (moment + skew) (seconds_of grant.start * 1000000) begun) refl
+    or_from (nat_lt (moment + skew) (seconds_of grant.starttime * 1000000)) false (le-ltb (moment + skew) (seconds_of grant.starttime * 1000000) begun) refl
 
 -- a moment isn't past an end and the skew
 abbrev pub Reaches : Micros → Micros → Seconds → Type 0
 Reaches skew moment end = moment ≤ end * 1000000 + skew
 
-pub not_late : (grant : GrantRecord) (skew moment : Micros) → Reaches skew moment (seconds_of grant.until) → is_late skew moment (ticket_part grant) ≡ false
+pub not_late : (grant : GrantRecord) (skew moment : Micros) → Reaches skew moment (seconds_of grant.endtime) → is_late skew moment (ticket_part grant) ≡ false
 unfolding ticket_part
-not_late grant skew moment reaches = le-ltb (seconds_of grant.until * 1000000 + skew) moment reaches
+not_late grant skew moment reaches = le-ltb (seconds_of grant.endtime * 1000000 + skew) moment reaches
 
 -- in one span with the moment of a grant is each clock that judges its ticket
 module _ (start span skew granted clock : Micros) (at : IsWithin start span granted) (later : IsWithin start span clock) (least : span ≤ skew) where
@@ -49,7 +49,7 @@ reaches_last skew moment till asked =
 
 -- nor is it past the end of a ticket, where it isn't past what the end is the least of
 pub reaches_end : (skew clock : Micros) (lifetime : Seconds) (granted : Micros) (old : Option Seconds) (till : GeneralizedTime) (span : Span) → IsSpan lifetime granted old (seconds_of till) span
-    → Reaches skew clock (asked_end (seconds_of till)) → Reaches skew clock (start_of granted + lifetime) → Reaches skew clock (old_end old) → Reaches skew clock (seconds_of span.until)
+    → Reaches skew clock (asked_end (seconds_of till)) → Reaches skew clock (start_of granted + lifetime) → Reaches skew clock (old_end old) → Reaches skew clock (seconds_of span.endtime)
 reaches_end skew clock lifetime granted old till span is asked long before =
     let last = reaches_last skew clock till asked in
     let bounds = reaches_least skew clock (old_end old) last_second before last in
@@ -58,6 +58,6 @@ reaches_end skew clock lifetime granted old till span is asked long before =
 
 -- where no ticket is older, there is no end before the last second
 pub reaches_first : (skew clock : Micros) (lifetime : Seconds) (granted : Micros) (till : GeneralizedTime) (span : Span) → IsSpan lifetime granted None (seconds_of till) span
-    → Reaches skew clock (asked_end (seconds_of till)) → Reaches skew clock (start_of granted + lifetime) → Reaches skew clock (seconds_of span.until)
+    → Reaches skew clock (asked_end (seconds_of till)) → Reaches skew clock (start_of granted + lifetime) → Reaches skew clock (seconds_of span.endtime)
 reaches_first skew clock lifetime granted till span is asked long =
     reaches_end skew clock lifetime granted None till span is asked long (reaches_last skew clock till asked)

@@ -52,7 +52,7 @@ lasts lifetime moment till span before long is =
     least_of (asked_end (seconds_of till)) (min (moment / 1000000 + lifetime) (min last_second last_second)) (moment / 1000000) asked
     (least_of (moment / 1000000 + lifetime) (min last_second last_second) (moment / 1000000) (omega (arith, long))
     (least_of last_second last_second (moment / 1000000) (omega (arith, asked, last)) (omega (arith, asked, last)))) in
-    lt-leb (seconds_of span.until) (seconds_of span.start) (omega (arith, is.starts, is.ends, end))
+    lt-leb (seconds_of span.endtime) (seconds_of span.starttime) (omega (arith, is.starts, is.ends, end))
 
 -- a lifetime that is longer than a skew is a second at least
 pub a_second : (skew : Micros) (lifetime : Seconds) → skew < lifetime * 1000000 → 1 ≤ lifetime

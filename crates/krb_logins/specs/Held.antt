@@ -28,9 +28,9 @@ first_grant client realm login span = record {
   client = principal_name NT_PRINCIPAL client.components;
   service = principal_name NT_SRV_INST (krbtgt_of client.realm);
   flags = record { initial = true; pre_authenticated = true };
-  auth_time = span.start;
-  start = span.start;
-  until = span.until;
+  auth_time = span.starttime;
+  starttime = span.starttime;
+  endtime = span.endtime;
   nonce = pos (nonce_of login.words_as);
 }
 
@@ -48,16 +48,16 @@ further_grant client realm login first span = record {
   client = principal_name NT_PRINCIPAL client.components;
   service = principal_name NT_SRV_INST login.service;
   flags = record { initial = false; pre_authenticated = true };
-  auth_time = first.start;
-  start = span.start;
-  until = span.until;
+  auth_time = first.starttime;
+  starttime = span.starttime;
+  endtime = span.endtime;
   nonce = pos (nonce_of login.words_tgs);
 }
 
 -- it doesn't last longer than the first one
 abbrev pub IsFurtherSpan : RealmRecord → LoginRecord → Span → Span → Type 0
 IsFurtherSpan realm login first span =
-    IsSpan realm.settings.lifetime login.realm_tgs (Some (seconds_of first.until)) (seconds_of login.till) span
+    IsSpan realm.settings.lifetime login.realm_tgs (Some (seconds_of first.endtime)) (seconds_of login.till) span
 
 -- the client holds what was granted: the ticket, whose part is encrypted under the service's key (RFC 4120, section
 -- 7.5.1), its session key, the service that it is for, and its times and flags
@@ -70,6 +70,6 @@ pub record IsHeld (account : AccountRecord) (words : Random) (grant : GrantRecor
   pub realm : credential.realm ≡ grant.realm
   pub service : credential.service ≡ grant.service
   pub authtime : credential.authtime ≡ grant.auth_time
-  pub starttime : credential.starttime ≡ grant.start
-  pub endtime : credential.endtime ≡ grant.until
+  pub starttime : credential.starttime ≡ grant.starttime
+  pub endtime : credential.endtime ≡ grant.endtime
   pub flags : credential.flags ≡ flags_of grant.flags

@@ -5,7 +5,7 @@
 //!
 //! A reply of `answer_by` is that of the realm with all accounts that the `Lookup` holds. `Unreadable` is returned only for a message that
 //! is no request, and `Fault` only for bytes that begin one (`BeginsRequest`). An account that can't be read is a fault, and neither a
-//! missing account nor a KRB-ERROR. Each message has a reply (law `has_reply`), by `one_reply` of `krb_replies` exactly one.
+//! missing account nor a KRB-ERROR. Each request has a reply (law `has_reply`), by `one_reply` of `krb_replies` exactly one.
 #![tactic(auto)]
 
 mod answer;

@@ -5,7 +5,7 @@ use Rattle.krb_kdc.specs.Realm.{RealmState}
 use Rattle.krb_settings.specs.Written.{shown_account}
 use Rattle.krb_settings.specs.declared.settings.AccountSettings.{AccountSettings}
 use Rattle.krb_program.specs.Realms.{adding_account, in_account, with_account, with_accounts}
-use Rattle.krb_program.specs.declared.fault.KdcFault.{KdcFault}
+use Rattle.krb_program.specs.declared.fault.RealmFault.{RealmFault}
 
 -- the first i accounts made of `start` this realm
 abbrev pub IsSoFar : RealmState → List AccountSettings → ℕ → RealmState → Type 0
@@ -18,7 +18,7 @@ so_far-more start realm new accounts i d inside added is so_far =
     let next : suc (1 + i) ≡ 1 + (i + 1) = omega arith in
     so_far ∙ rw (drop_more accounts i d inside, added, is, ← next) refl
 
-pub so_far-refused : (start realm : RealmState) (accounts : List AccountSettings) (i : ℕ) (d : AccountSettings) (fault : KdcFault) → i < length accounts
+pub so_far-refused : (start realm : RealmState) (accounts : List AccountSettings) (i : ℕ) (d : AccountSettings) (fault : RealmFault) → i < length accounts
     → in_account (1 + i) (adding_account realm (shown_account (get_or accounts i d))) ≡ Err fault
     → IsSoFar start accounts i realm → with_accounts 1 start (map shown_account accounts) ≡ Err fault
 so_far-refused start realm accounts i d fault inside refused so_far = so_far ∙ rw (drop_more accounts i d inside, refused) refl

@@ -12,8 +12,8 @@ use Rattle.krb_program.specs.declared.outcome.Stop.{Stop}
 use Rattle.krb_program.specs.declared.outcome.Stop.TheVariants.{Fault}
 use Rattle.krb_program.specs.Files.{HasFault, IsRealmFile}
 use Rattle.krb_program.specs.Runs.{IsEnd, stop_of}
-use Rattle.krb_program.specs.declared.fault.KdcFault.{KdcFault}
-use Rattle.krb_program.specs.declared.fault.KdcFault.TheVariants as kdc_fault
+use Rattle.krb_program.specs.declared.fault.RealmFault.{RealmFault}
+use Rattle.krb_program.specs.declared.fault.RealmFault.TheVariants as realm_fault
 use Rattle.krb_program.proofs.SoleRealm.{no_realm_with_fault}
 
 -- what the exit of a `?` returns
@@ -26,11 +26,11 @@ abbrev Failed : ServeFault → Result ℕ ServeFault
 Failed fault = Err fault
 
 module _ (Untouched : Type 0) (text : List ℕ) (moment : Micros) (old new : Devices) where
-  pub file_stopped : (fault : KdcFault) → Untouched → HasFault text fault → IsEnd Untouched text moment old new (Err (stop_of fault))
-  file_stopped kdc_fault.Memory kept has = inl kept
-  file_stopped (kdc_fault.File e) kept has = (kept, λ realm. no_realm_with_fault text (kdc_fault.File e) realm has (λ is. (cc)))
-  file_stopped (kdc_fault.Realm e) kept has = (kept, λ realm. no_realm_with_fault text (kdc_fault.Realm e) realm has (λ is. (cc)))
-  file_stopped (kdc_fault.Account n e) kept has = (kept, λ realm. no_realm_with_fault text (kdc_fault.Account n e) realm has (λ is. (cc)))
+  pub file_stopped : (fault : RealmFault) → Untouched → HasFault text fault → IsEnd Untouched text moment old new (Err (stop_of fault))
+  file_stopped realm_fault.Memory kept has = inl kept
+  file_stopped (realm_fault.File e) kept has = (kept, λ realm. no_realm_with_fault text (realm_fault.File e) realm has (λ is. (cc)))
+  file_stopped (realm_fault.Realm e) kept has = (kept, λ realm. no_realm_with_fault text (realm_fault.Realm e) realm has (λ is. (cc)))
+  file_stopped (realm_fault.Account n e) kept has = (kept, λ realm. no_realm_with_fault text (realm_fault.Account n e) realm has (λ is. (cc)))
 
   pub serving_stopped : (realm : RealmState) → IsRealmFile text realm → (fault : ServeFault)
       → Serves (RealmReplies realm no_functions) BeginsRequest moment old new (Err fault) → (Failed fault ≡ Failed serve_fault.Accounts → ⊥)

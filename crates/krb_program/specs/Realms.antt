@@ -13,23 +13,23 @@ use Rattle.krb_kdc.specs.Realm.{RealmState, making, made, adding, adding_by_pass
 use Rattle.krb_kdc.specs.Settings.{SettingsState, settings_by}
 use Rattle.krb_settings.specs.Steps.{◌>>=◌}
 use Rattle.krb_settings.specs.Written.{WrittenAccount, WrittenRealm, WrittenSecret, password, key}
-use Rattle.krb_program.specs.declared.fault.KdcFault.{KdcFault}
-use Rattle.krb_program.specs.declared.fault.KdcFault.TheVariants.{Account, Realm}
+use Rattle.krb_program.specs.declared.fault.RealmFault.{RealmFault}
+use Rattle.krb_program.specs.declared.fault.RealmFault.TheVariants.{Account, Realm}
 
 -- skew and lifetime, where they are in their ranges; a file has no anchor and no certificate
-abbrev pub settings_of : Seconds → Seconds → Result SettingsState KdcFault
+abbrev pub settings_of : Seconds → Seconds → Result SettingsState RealmFault
 settings_of skew lifetime =
     -- The clock skew is at most 86,400 seconds, and the lifetime from 1 to 31,536,000. Test: `skew is 100000`, `lifetime is 0`.
     if nat_le skew most_skew && nat_le 1 lifetime && nat_le lifetime most_lifetime then Ok (settings_by skew lifetime None None)
     else Err (Realm BadSetting)
 
 -- the result of a step on the realm itself, whose refusal is a fault of the realm
-abbrev pub in_realm : {A : Type 0} → Result A RealmRefusal → Result A KdcFault
+abbrev pub in_realm : {A : Type 0} → Result A RealmRefusal → Result A RealmFault
 in_realm (Ok x) = Ok x
 in_realm (Err refusal) = Err (Realm refusal)
 
 -- the result of a step on the account with this number, whose refusal is a fault of that account
-abbrev pub in_account : {A : Type 0} → ℕ → Result A RealmRefusal → Result A KdcFault
+abbrev pub in_account : {A : Type 0} → ℕ → Result A RealmRefusal → Result A RealmFault
 in_account number (Ok x) = Ok x
 in_account number (Err refusal) = Err (Account number refusal)
 
@@ -57,13 +57,13 @@ with_account realm account = record realm {
 }
 
 -- accounts, of which the first has this number, are added up to the first that is refused
-abbrev pub with_accounts : ℕ → RealmState → List WrittenAccount → Result RealmState KdcFault
+abbrev pub with_accounts : ℕ → RealmState → List WrittenAccount → Result RealmState RealmFault
 with_accounts number realm [] = Ok realm
 with_accounts number realm (account ∷ rest) =
     in_account number (adding_account realm account) >>= (λ _. with_accounts (suc number) (with_account realm account) rest)
 
 -- The realm that a settings file writes, or the first refusal: of its settings, of its name and key, of its accounts in their order.
-abbrev pub realm_of_settings : WrittenRealm → Result RealmState KdcFault
+abbrev pub realm_of_settings : WrittenRealm → Result RealmState RealmFault
 realm_of_settings written = settings_of written.skew written.lifetime >>= (λ settings.
     in_realm (making written.name written.suite written.key) >>= (λ _.
     with_accounts 1 (made written.name written.suite written.key settings) written.accounts))

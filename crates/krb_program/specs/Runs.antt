@@ -11,11 +11,11 @@ use Rattle.krb_program.specs.Devices.{Devices, Serves}
 use Rattle.krb_program.specs.declared.outcome.Stop.{Stop}
 use Rattle.krb_program.specs.declared.outcome.Stop.TheVariants.{BadArguments, BadSettings, Fault}
 use Rattle.krb_program.specs.Files.{IsRealmFile}
-use Rattle.krb_program.specs.declared.fault.KdcFault.{KdcFault}
-use Rattle.krb_program.specs.declared.fault.KdcFault.TheVariants.{Memory}
+use Rattle.krb_program.specs.declared.fault.RealmFault.{RealmFault}
+use Rattle.krb_program.specs.declared.fault.RealmFault.TheVariants.{Memory}
 
 -- why a program stops by a fault of its file
-abbrev pub stop_of : KdcFault → Stop
+abbrev pub stop_of : RealmFault → Stop
 stop_of Memory = Fault serve_fault.Memory
 stop_of _ = BadSettings
 

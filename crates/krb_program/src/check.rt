@@ -6,7 +6,7 @@ ghost use Rattle.krb_settings.specs.Written.{shown_realm};
 ghost use Rattle.krb_program.specs.Checks.{IsChecked};
 ghost use Rattle.krb_program.specs.Realms.{realm_of_settings};
 
-use crate::fault::KdcFault;
+use crate::fault::RealmFault;
 use crate::realm::realm_of_settings;
 use krb_accounts::RealmRefusal;
 use krb_settings::{RealmSettings, SettingsFault, read_settings_file};
@@ -45,27 +45,27 @@ fn check_written(
 {
     match fault_of(alloc, written) {
         None => Ok(FileCheck::Realm(warnings_of(alloc, text, written)?)),
-        Some(KdcFault::Memory) => Err(AllocError),
+        Some(RealmFault::Memory) => Err(AllocError),
         Some(fault) => Ok(FileCheck::Fault(explain_refusal(alloc, text, fault)?)),
     }
 }
 
 // Why these settings are no realm's.
-fn fault_of(alloc: Global, written: &RealmSettings) -> Option<KdcFault>
+fn fault_of(alloc: Global, written: &RealmSettings) -> Option<RealmFault>
     ensures { MatchOption result
         ((realm : RealmState) × (realm_of_settings (shown_realm written.now) ≡ Ok realm))
-        (λ fault. (fault ≡ KdcFault.Memory) ⊎ (realm_of_settings (shown_realm written.now) ≡ Err fault)) }
+        (λ fault. (fault ≡ RealmFault.Memory) ⊎ (realm_of_settings (shown_realm written.now) ≡ Err fault)) }
 {
     realm_of_settings(alloc, written).err()
 }
 
 // The message of what the realm refuses in a file.
-fn explain_refusal(alloc: Global, text: &[u8], fault: KdcFault) -> Result<Remark, AllocError> {
+fn explain_refusal(alloc: Global, text: &[u8], fault: RealmFault) -> Result<Remark, AllocError> {
     let (place, refusal) = match fault {
-        KdcFault::File(fault) => return explain(alloc, text, fault),
-        KdcFault::Realm(refusal) => (Place::File, refusal),
-        KdcFault::Account(number, refusal) => (Place::Account(number), refusal),
-        KdcFault::Memory => return Err(AllocError),
+        RealmFault::File(fault) => return explain(alloc, text, fault),
+        RealmFault::Realm(refusal) => (Place::File, refusal),
+        RealmFault::Account(number, refusal) => (Place::Account(number), refusal),
+        RealmFault::Memory => return Err(AllocError),
     };
     match rule_of(refusal) {
         Some(rule) => explain_rule(alloc, text, place, rule),

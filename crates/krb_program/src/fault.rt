@@ -9,7 +9,7 @@ use thiserror::Error;
 
 /// Why a settings file is no realm's, and where.
 #[derive(Clone, Copy, Debug, PartialEq, Eq, Error)]
-pub enum KdcFault {
+pub enum RealmFault {
     /// A fault of the file itself.
     #[error("{0}")]
     File(SettingsFault),
@@ -24,7 +24,7 @@ pub enum KdcFault {
     Memory,
 }
 
-impl KdcFault {
+impl RealmFault {
     ghost use Rattle.krb_program.specs.Runs.{stop_of};
 
     /// Why a program stops that was given such a file.
@@ -32,7 +32,7 @@ impl KdcFault {
         ensures { result ≡ stop_of self }
     {
         match self {
-            KdcFault::Memory => Stop::Fault(ServeFault::Memory),
+            RealmFault::Memory => Stop::Fault(ServeFault::Memory),
             _ => Stop::BadSettings,
         }
     }

@@ -2,8 +2,8 @@
 ghost use Rattle.std.specs.Prelude.{◌≡◌, ◌≢◌, ℕ, List};
 ghost use Rattle.krb_kdc.specs.Realm.{RealmState};
 ghost use Rattle.krb_program.specs.Files.{HasFault, IsRealmFile};
-ghost use Rattle.krb_program.specs.declared.fault.KdcFault.{KdcFault};
-ghost use Rattle.krb_program.specs.declared.fault.KdcFault.TheVariants as kdc_fault;
+ghost use Rattle.krb_program.specs.declared.fault.RealmFault.{RealmFault};
+ghost use Rattle.krb_program.specs.declared.fault.RealmFault.TheVariants as realm_fault;
 
 /// A file writes one realm at most.
 pub fn one_realm()
@@ -12,6 +12,6 @@ pub fn one_realm()
 
 /// A file with a fault other than `Memory` writes no realm.
 pub fn no_realm_with_fault()
-    ensures { (text : List ℕ) (fault : KdcFault) (realm : RealmState) → HasFault text fault → fault ≢ kdc_fault.Memory
+    ensures { (text : List ℕ) (fault : RealmFault) (realm : RealmState) → HasFault text fault → fault ≢ realm_fault.Memory
         → ¬ IsRealmFile text realm }
 {}

@@ -21,7 +21,7 @@ mod serving;
 
 pub use check::{FileCheck, check_file};
 pub use console::{read_file, run_with_arguments};
-pub use fault::KdcFault;
+pub use fault::RealmFault;
 pub use outcome::{Outcome, Stop};
 pub use process::run_process;
 pub use realm::{realm_of_file, realm_of_settings};

@@ -33,7 +33,7 @@ abbrev pub reply_of : CallRecord → (Code → Option Bytes) → KdcReq → Resu
 reply_of call e_data request (Ok bytes) = done (Some bytes)
 reply_of call e_data request (Err code) =
     -- A KRB-ERROR has the code, stime and susec of now, the realm, and the request's sname, else `krbtgt` with the realm (name type 2);
-    -- it has no ctime, cusec, crealm, cname or e-text (RFC 4120, section 5.9.1). Test: `as pvno`, `as service absent`.
+    -- it has no ctime, cusec, crealm, cname or e-text (RFC 4120, section 5.9.1). Test: `tgs pvno`, `as service absent`.
     make (IsSecondOf call.moment) (sole_second call.moment) (λ time.
     done (Some (error_bytes call.realm time (call.moment % 1000000) (named_service call.realm (service_of (body_of request))) code (e_data code))))
 
@@ -61,10 +61,10 @@ tgs_reply call request =
 abbrev pub replies : CallRecord → PkinitRows → Bytes → Table (Option Bytes)
 replies call rows request =
     -- The bytes are the DER encoding of an AS-REQ with nothing after it, else they are judged as a TGS-REQ (RFC 4120, section 5.4.1).
-    -- Test: `as outer tag!`, `as damaged bytes!`, `as length long!`.
+    -- Test: `as outer tag!`, `as damaged bytes!`, `as length long!`; `as byte behind!` of `five_suites.txt`.
     ask (IsAsReq request) (sole_as_req request)
     -- The bytes are the DER encoding of a TGS-REQ with nothing after it, else there is no reply (RFC 4120, section 5.4.1). Test:
-    -- `tgs length one more!`, `tgs damaged bytes!`, `message a KRB-ERROR!`.
+    -- `tgs length one more!`, `tgs damaged bytes!`, `tgs byte behind!`, `message a KRB-ERROR!`.
     (ask (IsTgsReq request) (sole_tgs_req request) (done None) (tgs_reply call))
     (λ v. as_reply call rows (account_of call.look (client_of (body_of v))) (account_of call.look (service_of (body_of v))) v)
 

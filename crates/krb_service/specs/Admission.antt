@@ -1,14 +1,14 @@
 -- The admission of a client by a service: what the service gets from the ticket and the authenticator (RFC 4120, sections 3.2.3, 5.3).
 use Rattle.std.specs.Prelude.{◌≡◌, Option, ℤ}
-use Rattle.std.specs.Option.{option_map, option_map_or}
+use Rattle.std.specs.Option.{option_map}
 use Rattle.asn1_leaves.specs.declared.date.GeneralizedTime.{GeneralizedTime}
 use Rattle.picky_asn1.specs.BitString.{Bits}
 use Rattle.picky_asn1.specs.Bytes.{Bytes}
 use Rattle.krb_types.specs.declared.data_types.authenticator.AuthenticatorInner.{AuthenticatorInner}
 use Rattle.krb_types.specs.declared.data_types.checksum.Checksum.{Checksum}
-use Rattle.krb_types.specs.declared.data_types.enc_ticket_part.EncTicketPartInner.{EncTicketPartInner}
 use Rattle.krb_types.specs.declared.data_types.encryption_key.EncryptionKey.{EncryptionKey}
 use Rattle.krb_types.specs.declared.data_types.principal_name.PrincipalName.{PrincipalName}
+use Rattle.krb_ap_requests.specs.ApTable.{starttime_of}
 use Rattle.krb_ap_requests.specs.Presents.{Choice}
 use Rattle.krb_ap_requests.specs.declared.presented.Presented.{Presented}
 
@@ -27,10 +27,6 @@ pub record AdmissionRecord : Type 0 where
   pub checksum : Option Checksum
   pub seq_number : Option ℤ
   pub reply : Option Bytes
-
--- a ticket's start: its starttime, or its authtime where it has no starttime (RFC 4120, section 5.3)
-abbrev pub starttime_of : EncTicketPartInner → GeneralizedTime
-starttime_of part = option_map_or (λ tagged. tagged.0.0) part.starttime.0 part.auth_time.0.0
 
 -- the authenticator's subkey, if it has one (RFC 4120, section 5.5.1)
 abbrev pub subkey_of : AuthenticatorInner → Option EncryptionKey

@@ -2,11 +2,12 @@
 ghost use Rattle.std.specs.Prelude.{◌≡◌, ◌≤◌, false, length, IfOk};
 ghost use Rattle.std.specs.Option.{option_map};
 ghost use Rattle.krb_types.specs.RandomBytes.{AreEnoughForApReply};
-ghost use Rattle.krb_service.specs.Admission.{admission_of, checksum_of, seq_number_of, starttime_of, subkey_of};
+ghost use Rattle.krb_ap_requests.specs.ApTable.{starttime_of};
+ghost use Rattle.krb_service.specs.Admission.{admission_of, checksum_of, seq_number_of, subkey_of};
 ghost use Rattle.krb_service.specs.ApReply.{HasSessionKey, IsReplyTo, IsReplyWith, random_size};
 
 use crate::reply::{ReplyFields, ap_reply};
-use krb_ap_requests::Presented;
+use krb_ap_requests::{Presented, starttime_of};
 use krb_crypto::Key;
 use krb_encrypted_data::key_of;
 use krb_types::data_types::{
@@ -121,16 +122,6 @@ fn admission_with(part: EncTicketPartInner, taken: Taken, reply: Option<Vec<u8>>
         checksum,
         seq_number,
         reply,
-    }
-}
-
-// Returns the ticket's starttime, or its authtime where it has no starttime.
-fn starttime_of(part: &EncTicketPartInner) -> GeneralizedTime
-    ensures { result ≡ starttime_of part.now }
-{
-    match &part.starttime.0 {
-        Some(tagged) => tagged.0.0,
-        None => part.auth_time.0.0,
     }
 }
 

@@ -78,7 +78,7 @@ text_at field document = value_at field document >>= text_of field
 abbrev pub natural_at : Field → Members → Result ℕ TableFault
 natural_at field document = value_at field document >>= natural_of field
 
--- the name of a suite (RFC 3961, section 6.3; RFC 3962, section 7; RFC 8009, section 4)
+-- the name of a suite (RFC 3961, section 8; RFC 3962, section 7; RFC 8009, section 4)
 unfoldable pub suite_name : CipherSuite → List ℕ
 suite_name Aes128CtsHmacSha196 = codes "aes128-cts-hmac-sha1-96"
 suite_name Aes256CtsHmacSha196 = codes "aes256-cts-hmac-sha1-96"
@@ -88,7 +88,7 @@ suite_name Aes256CtsHmacSha384192 = codes "aes256-cts-hmac-sha384-192"
 
 -- the suite of a name
 unfoldable pub suite_named : List ℕ → Result CipherSuite TableFault
--- A suite has one of five names (RFC 3961, section 6.3; RFC 3962, section 7; RFC 8009, section 4). Test: `unknown suite`.
+-- A suite has one of five names (RFC 3961, section 8; RFC 3962, section 7; RFC 8009, section 4). Test: `unknown suite`.
 suite_named name = ok_or (find (λ suite. pointwise nat_eq name (suite_name suite)) cipher_suites) UnknownSuite
 
 -- The suite that the field `suite` of a table names.

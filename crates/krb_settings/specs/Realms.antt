@@ -15,7 +15,7 @@ realm_fields = Account ∷ Key ∷ Lifetime ∷ Realm ∷ Skew ∷ Suite ∷ []
 
 -- the realm with these accounts, or the first of its own faults
 abbrev pub realm_with : Members → List WrittenAccount → Result WrittenRealm TableFault
--- Of a realm's own faults the first counts: realm, suite, key, skew, lifetime. Test: `no realm` of `files.txt`, `no key` of `files.txt`.
+-- Of a realm's own faults the first counts: realm, suite, key, skew, lifetime. Test: `no realm`, `unknown suite` of `files.txt`.
 realm_with document accounts =
     text_at Realm document >>= (λ name. suite_at document >>= (λ suite. key_at document >>= (λ key.
     natural_at Skew document >>= (λ skew. natural_at Lifetime document >>= (λ lifetime.
@@ -23,6 +23,7 @@ realm_with document accounts =
 
 -- an unknown key comes first, then the accounts' faults
 abbrev pub realm_in_table : Members → Result WrittenRealm SettingsFault
--- An unknown key of the file comes first, then the faults of the accounts. Test: `unknown key "kdc"`, `unknown key "pasword"`.
+-- An unknown key of the file comes first, then the faults of the accounts, then those of the realm itself. Test: `unknown key "skwe"`,
+-- `unknown key "lifetime"`.
 realm_in_table document =
     in_file (only realm_fields document) >>= (λ _. accounts_at document >>= (λ accounts. in_file (realm_with document accounts)))

@@ -146,7 +146,7 @@ pub(crate) fn key_at(alloc: Global, table: &Table) -> Result<Vec<u8>, TableFault
     bytes_of(alloc, text_at(table, Field::Key)?)
 }
 
-/// The name of a suite, as files have it (RFC 3961, section 6.3; RFC 3962, section 7; RFC 8009, section 4).
+/// The name of a suite, as files have it (RFC 3961, section 8; RFC 3962, section 7; RFC 8009, section 4).
 #[tactic(auto, unfolding(crate::specs::Fields::suite_name))]
 pub fn suite_name(suite: CipherSuite) -> &'static str
     ensures { result.now ≡ suite_name suite }

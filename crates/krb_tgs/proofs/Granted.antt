@@ -15,7 +15,7 @@ use Rattle.krb_kdc_requests.specs.Call.{CallRecord}
 use Rattle.krb_kdc_requests.specs.Granting.{replied}
 use Rattle.krb_kdc_requests.specs.Requests.{lasting}
 use Rattle.krb_kdc_requests.specs.declared.span.Span.{Span}
-use Rattle.krb_tgs.specs.TgsTable.{first_known, further, further_ticket, reply_key, subkey_in}
+use Rattle.krb_tgs.specs.TgsTable.{first_known, further, further_grant, reply_key, subkey_in}
 
 module _ (call : CallRecord) (part : EncTicketPartInner) (authenticated : Authenticated) (service_name : PrincipalName) (service : AccountRecord) (body : KdcReqBody) (span : Span)
     (lasts : (lasting call.settings.lifetime call.moment (Some (seconds_of part.endtime.0.0)) body).gives (Ok span)) where
@@ -23,7 +23,7 @@ module _ (call : CallRecord) (part : EncTicketPartInner) (authenticated : Authen
   key = reply_key authenticated.suite part.key.0.key_value.0 (subkey_in authenticated.authenticator)
 
   abbrev to_seal : CipherSuite → ReplyKeyRecord → Table (Result (List ℕ) ℕ)
-  to_seal suite under = replied (further_ticket call part service_name suite body span) under service call.words
+  to_seal suite under = replied (further_grant call part service_name suite body span) under service call.words
 
   abbrev to_key : CipherSuite → Table (Result (List ℕ) ℕ)
   to_key suite = need key 31 (to_seal suite)
@@ -41,7 +41,7 @@ module _ (call : CallRecord) (part : EncTicketPartInner) (authenticated : Authen
       inl (span, lasts, subst (λ o. (need o 14 to_key).gives (Err 31)) some (subst (λ k. (need k 31 (to_seal suite)).gives (Err 31)) none refl))
 
   pub given : (suite : CipherSuite) (under : ReplyKeyRecord) (ticket : GrantRecord) (bytes : List ℕ) → Some suite ≡ first_known body.etype.0 → Some under ≡ key
-      → ticket ≡ further_ticket call part service_name suite body span → IsTicketReply ticket under service call.words bytes → answers (Ok bytes)
+      → ticket ≡ further_grant call part service_name suite body span → IsTicketReply ticket under service call.words bytes → answers (Ok bytes)
   given suite under ticket bytes some keyed same reply =
       let own = subst (λ g. IsTicketReply g under service call.words bytes) same reply in
       inl (span, lasts, subst (λ o. (need o 14 to_key).gives (Ok bytes)) some (subst (λ k. (need k 31 (to_seal suite)).gives (Ok bytes)) keyed (bytes, own, refl)))

@@ -43,7 +43,7 @@ use Rattle.krb_ap_requests.specs.ApTable.{ap_fields, authenticated, is_early, is
 use Rattle.krb_encrypted_data.proofs.KeySizes.{suite_sized}
 use Rattle.krb_ap_requests.proofs.Judgements.{has_authenticated, has_fields, has_opened_part, has_times}
 use Rattle.krb_tgs.specs.ByTicket.{IsByTicket}
-use Rattle.krb_tgs.specs.TgsTable.{carried, checksum_in, counting, covered, first_known, further, further_ticket, has_account, is_known_checksum, is_of_body, of_carried, of_authenticated, of_ticket, reply_key, authenticated_near, subkey_in, tgs_granted, tgs_table, ticket_granting, to_us}
+use Rattle.krb_tgs.specs.TgsTable.{carried, checksum_in, client_and_times, covered, first_known, further, further_grant, has_account, is_known_checksum, is_of_body, of_carried, of_authenticated, of_ticket, reply_key, authenticated_near, subkey_in, tgs_granted, tgs_table, ticket_granting, to_us}
 use Rattle.krb_tgs.proofs.ByTicket.{IsOfKey, by_authenticator, by_padata, by_ticket}
 use Rattle.krb_tgs.proofs.PresentedTrees.{authenticator_short, part_name_fits, request_fits, subkey_short, ticket_short}
 use Rattle.krb_tgs.proofs.SealedLengths.{opened_fits}
@@ -61,20 +61,20 @@ has_carried padata =
     has_needed (first_of 1 padata) 16 read
     (λ value e. has_asked (IsApReq value) (sole_ap_req value) none end (has_done (Err 41)) (λ ap_req x. has_done (Ok ap_req)))
 
-has_counting : (call : CallRecord) (part : EncTicketPartInner) → HasOutcome (counting call part)
-has_counting call part =
+has_client_and_times : (call : CallRecord) (part : EncTicketPartInner) → HasOutcome (client_and_times call part)
+has_client_and_times call part =
     has_refused {T = Unit {0}} (not (is_same_realm part.crealm.0 call.realm)) 68 (timely (skew_of call) call.moment part) (λ _. has_times (is_early (skew_of call) call.moment part) (is_late (skew_of call) call.moment part))
 
 has_ticket_granting : (call : CallRecord) (granting : AccountRecord) (ap_req : ApReqInner) → HasOutcome (ticket_granting call granting ap_req)
 has_ticket_granting call granting ap_req =
-    let end : EncTicketPartInner → Table (Result EncTicketPartInner ℕ) = λ part. and_then {A = Unit {0}} (counting call part) (λ _. done (Ok part)) in
+    let end : EncTicketPartInner → Table (Result EncTicketPartInner ℕ) = λ part. and_then {A = Unit {0}} (client_and_times call part) (λ _. done (Ok part)) in
     let opened : Table (Result EncTicketPartInner ℕ) = opened_part granting.suite granting.key ap_req.ticket.0.0.enc_part.0 in
     has_then {A = Unit {0}} (ap_fields call.realm (krbtgt_of call.realm) granting.kvno ap_req) (λ _. and_then opened end)
     (has_fields (not (is_version_5 ap_req)) (not (is_number 14 ap_req.msg_type.0)) (not (is_for call.realm (krbtgt_of call.realm) ap_req.ticket.0.0))
     (not (kvno_fits granting.kvno ap_req.ticket.0.0.enc_part.0)))
     (λ _ x.
     has_then opened end (has_opened_part granting.suite granting.key ap_req.ticket.0.0.enc_part.0)
-    (λ part y. has_then {A = Unit {0}} (counting call part) (λ _. done (Ok part)) (has_counting call part) (λ _ z. has_done (Ok part))))
+    (λ part y. has_then {A = Unit {0}} (client_and_times call part) (λ _. done (Ok part)) (has_client_and_times call part) (λ _ z. has_done (Ok part))))
 
 has_authenticated_near : (call : CallRecord) (part : EncTicketPartInner) (ap_req : ApReqInner) → HasOutcome (authenticated_near call part ap_req)
 has_authenticated_near call part ap_req =
@@ -117,12 +117,12 @@ module _ (call : CallRecord) (request : KdcReq) (is : IsCall call) (n : ℕ) (fe
 
   -- what is granted can be written
   further_written : (ap_req : ApReqInner) (part : EncTicketPartInner) (service : PrincipalName) (suite : CipherSuite) (span : Span) → IsByTicket call request ap_req part → service_of body ≡ Some service
-      → IsWritten Tgs (further_ticket call part service suite body span)
+      → IsWritten Tgs (further_grant call part service suite body span)
   further_written ap_req part service suite span by named =
       let opened = opened_fits {T = EncTicketPartInner} enc_ticket_part_tree by.granting.suite by.granting.key 2 ap_req.ticket.0.0.enc_part.0 part n by.opens
       (ticket_short n ap_req (carried_fits ap_req part by)) in
       let asked = body_fits n request fits in
-      is_written n (further_ticket call part service suite body span)
+      is_written n (further_grant call part service suite body span)
       (record {
         few = few;
         session = session_short suite call.words is.enough is.bytes;
@@ -149,7 +149,7 @@ module _ (call : CallRecord) (request : KdcReq) (is : IsCall call) (n : ℕ) (fe
       → IsByTicket call request ap_req part → IsOfKey ap_req part authenticated → service_of body ≡ Some service_name → IsKeyed service → HasOutcome (further call part authenticated service_name service body)
   has_further ap_req part authenticated service_name service by of_key named keyed =
       let old : Option ℕ = Some (seconds_of part.endtime.0.0) in
-      let to_seal : Span → CipherSuite → ReplyKeyRecord → Table (Result (List ℕ) ℕ) = λ span suite under. replied (further_ticket call part service_name suite body span) under service call.words in
+      let to_seal : Span → CipherSuite → ReplyKeyRecord → Table (Result (List ℕ) ℕ) = λ span suite under. replied (further_grant call part service_name suite body span) under service call.words in
       let to_key : Span → CipherSuite → Table (Result (List ℕ) ℕ) = λ span suite. need (reply_key authenticated.suite part.key.0.key_value.0 (subkey_in authenticated.authenticator)) 31 (to_seal span suite) in
       let to_suite : Span → Table (Result (List ℕ) ℕ) = λ span. need (first_known body.etype.0) 14 (to_key span) in
       has_then (lasting call.settings.lifetime call.moment old body) to_suite (has_lasting call.settings.lifetime call.moment old body is.in_time)
@@ -160,8 +160,8 @@ module _ (call : CallRecord) (request : KdcReq) (is : IsCall call) (n : ℕ) (fe
       (λ under f.
       let ready = usable ap_req part authenticated by of_key (subkey_in authenticated.authenticator) refl under f in
       let ready_to_write = further_written ap_req part service_name suite span by named in
-      has_replied (further_ticket call part service_name suite body span) under service call.words ready.sized ready.bytes keyed is.enough is.bytes
-      (subst (λ exchange. IsWritten exchange (further_ticket call part service_name suite body span)) (sym ready.exchange) ready_to_write))))
+      has_replied (further_grant call part service_name suite body span) under service call.words ready.sized ready.bytes keyed is.enough is.bytes
+      (subst (λ exchange. IsWritten exchange (further_grant call part service_name suite body span)) (sym ready.exchange) ready_to_write))))
 
   has_granted : (ap_req : ApReqInner) (part : EncTicketPartInner) (authenticated : Authenticated) → IsByTicket call request ap_req part → IsOfKey ap_req part authenticated → HasOutcome (tgs_granted call part authenticated body)
   has_granted ap_req part authenticated by of_key =

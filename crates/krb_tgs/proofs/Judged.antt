@@ -16,7 +16,7 @@ use Rattle.krb_kdc_requests.specs.Call.{CallRecord}
 use Rattle.krb_kdc_requests.specs.Granting.{IsGranted}
 use Rattle.krb_types.specs.TicketGranting.{krbtgt_of}
 use Rattle.krb_kdc_requests.proofs.Parts.{part_passed, part_refused}
-use Rattle.krb_tgs.specs.TgsTable.{counting, of_carried, of_ticket, ticket_granting}
+use Rattle.krb_tgs.specs.TgsTable.{client_and_times, of_carried, of_ticket, ticket_granting}
 
 -- the ticket that a request presents is judged, by equal keys
 module _ (call : CallRecord) (granting : AccountRecord) (ap_req : ApReqInner) (kvno : ℕ) (numbered : kvno ≡ granting.kvno) where
@@ -27,7 +27,7 @@ module _ (call : CallRecord) (granting : AccountRecord) (ap_req : ApReqInner) (k
   opening suite key = opened_part suite key ap_req.ticket.0.0.enc_part.0
 
   abbrev end : EncTicketPartInner → Table (Result EncTicketPartInner ℕ)
-  end part = and_then {A = Unit {0}} (counting call part) (λ _. done (Ok part))
+  end part = and_then {A = Unit {0}} (client_and_times call part) (λ _. done (Ok part))
 
   abbrev pub judged : Result EncTicketPartInner Refusal → Type 0
   judged r = IsJudged (ticket_granting call granting ap_req).gives r
@@ -50,19 +50,19 @@ module _ (call : CallRecord) (granting : AccountRecord) (ap_req : ApReqInner) (k
     pub unopened : (e : Refusal) → IsJudged (opening key.suite key.bytes).gives (Err e) → judged (Err e)
     unopened e y = further (Err e) (part_refused (opening granting.suite granting.key) end e (opened (Err e) y))
 
-    -- it doesn't count
-    pub uncounted : (part : EncTicketPartInner) (e : Refusal) → (opening key.suite key.bytes).gives (Ok part) → IsJudged (counting call part).gives (Err e) → judged (Err e)
-    uncounted part e y z =
+    -- its client isn't one of this realm, or it isn't valid at the moment
+    pub client_or_times_refused : (part : EncTicketPartInner) (e : Refusal) → (opening key.suite key.bytes).gives (Ok part) → IsJudged (client_and_times call part).gives (Err e) → judged (Err e)
+    client_or_times_refused part e y z =
         further (Err e)
-        (part_passed (opening granting.suite granting.key) end part (Err e) (opened (Ok part) y) (part_refused {A = Unit {0}} (counting call part) (λ _. done (Ok part)) e z))
+        (part_passed (opening granting.suite granting.key) end part (Err e) (opened (Ok part) y) (part_refused {A = Unit {0}} (client_and_times call part) (λ _. done (Ok part)) e z))
 
-    pub counted : (part : EncTicketPartInner) → (opening key.suite key.bytes).gives (Ok part) → (counting call part).gives (Ok tt) → judged (Ok part)
-    counted part y z = further (Ok part) (inl (part, opened (Ok part) y, inl (tt, z, refl)))
+    pub client_and_times_passed : (part : EncTicketPartInner) → (opening key.suite key.bytes).gives (Ok part) → (client_and_times call part).gives (Ok tt) → judged (Ok part)
+    client_and_times_passed part y z = further (Ok part) (inl (part, opened (Ok part) y, inl (tt, z, refl)))
 
-    -- by what it was judged to count
-    pub judged_counting : (part : EncTicketPartInner) → (opening key.suite key.bytes).gives (Ok part) → (j : Result (Unit {0}) Refusal) → IsJudged (counting call part).gives j → (r : Result EncTicketPartInner Refusal) → (j ≡ Ok tt → r ≡ Ok part) → ((e : Refusal) → j ≡ Err e → r ≡ Err e) → judged r
-    judged_counting part y (Ok tt) z r p q = subst judged (sym (p refl)) (counted part y z)
-    judged_counting part y (Err e) z r p q = subst judged (sym (q e refl)) (uncounted part e y z)
+    -- by how client and times were judged
+    pub judged_client_and_times : (part : EncTicketPartInner) → (opening key.suite key.bytes).gives (Ok part) → (j : Result (Unit {0}) Refusal) → IsJudged (client_and_times call part).gives j → (r : Result EncTicketPartInner Refusal) → (j ≡ Ok tt → r ≡ Ok part) → ((e : Refusal) → j ≡ Err e → r ≡ Err e) → judged r
+    judged_client_and_times part y (Ok tt) z r p q = subst judged (sym (p refl)) (client_and_times_passed part y z)
+    judged_client_and_times part y (Err e) z r p q = subst judged (sym (q e refl)) (client_or_times_refused part e y z)
 
 -- by the account of the ticket-granting service, or where it has none
 module _ (call : CallRecord) (body : KdcReqBody) (ap_req : ApReqInner) (found : Option AccountRecord) (account : found ≡ call.look (krbtgt_of call.realm)) where

@@ -66,8 +66,8 @@ carried padata =
     done (Ok ap_req)))
 
 -- the ticket's client is one of this realm, and the ticket is valid at the moment
-abbrev pub counting : CallRecord → EncTicketPartInner → Table (Result (Unit {0}) Code)
-counting call part =
+abbrev pub client_and_times : CallRecord → EncTicketPartInner → Table (Result (Unit {0}) Code)
+client_and_times call part =
     -- The ticket's `crealm` is this realm (RFC 4120, section 3.3.3). Test: `tgs ticket client realm`.
     refuse (not (is_same_realm part.crealm.0 call.realm)) KDC_ERR_WRONG_REALM
     (timely (skew_of call) call.moment part)
@@ -77,7 +77,7 @@ abbrev pub ticket_granting : CallRecord → AccountRecord → ApReqInner → Tab
 ticket_granting call granting ap_req =
     and_then (ap_fields call.realm (krbtgt_of call.realm) granting.kvno ap_req) (λ _.
     and_then (opened_part granting.suite granting.key (enc_part_in ap_req)) (λ part.
-    and_then (counting call part) (λ _.
+    and_then (client_and_times call part) (λ _.
     done (Ok part))))
 
 -- The authenticator of a TGS request decrypts under the session key, for key usage 7 (RFC 4120, section 7.5.1).
@@ -85,7 +85,7 @@ ticket_granting call granting ap_req =
 abbrev pub authenticated_near : CallRecord → EncTicketPartInner → ApReqInner → Table (Result Authenticated Code)
 authenticated_near call part ap_req =
     and_then (authenticated (key_usage TGS_REQ_PA_DATA_AP_REQ_AUTHENTICATOR) part ap_req.authenticator.0) (λ authenticated.
-    -- Clock skew: the authenticator's `ctime` differs from now by the skew at most (RFC 4120, section 3.2.3). Test:
+    -- Clock skew: the authenticator's `ctime` and `cusec` differ from now by the skew at most (RFC 4120, section 3.2.3). Test:
     -- `tgs authenticator skew far`, `tgs authenticator skew edges`.
     refuse (is_far (skew_of call) call.moment authenticated.time) KRB_AP_ERR_SKEW
     (done (Ok authenticated)))
@@ -106,13 +106,13 @@ is_of_body kind key body checksum =
 -- the authenticator's checksum covers the request's body
 abbrev pub covered : CipherSuite → Bytes → AuthenticatorInner → KdcReqBody → Table (Result (Unit {0}) Code)
 covered suite key authenticator body =
-    -- The authenticator has a `cksum` (RFC 4120, section 3.3.3). Test: `tgs checksum missing`.
+    -- The authenticator has a `cksum` (RFC 4120, section 3.3.2). Test: `tgs checksum missing`.
     need (checksum_in authenticator) KRB_AP_ERR_INAPP_CKSUM (λ checksum.
-    -- `cksumtype` is 12, 15, 16, 19 or 20 (RFC 4120, section 3.3.3). Test: `tgs checksum unknown type`.
+    -- `cksumtype` is 12, 15, 16, 19 or 20 (RFC 4120, section 3.3.2). Test: `tgs checksum unknown type`.
     refuse (not (is_known_checksum checksum.cksumtype.0)) KDC_ERR_SUMTYPE_NOSUPP
-    -- `cksumtype` is that of the session key's suite (RFC 4120, section 3.3.3). Test: `tgs checksum other suite` of `five_suites.txt`.
+    -- `cksumtype` is that of the session key's suite (RFC 4120, section 3.3.2). Test: `tgs checksum other suite` of `five_suites.txt`.
     (refuse (not (is_number (checksum_number (cipher_checksum suite)) checksum.cksumtype.0)) KRB_AP_ERR_INAPP_CKSUM
-    -- `cksum` is the checksum of the DER encoding of `req-body`, for key usage 6 (RFC 4120, section 3.3.3). Test:
+    -- `cksum` is the checksum of the DER encoding of `req-body`, for key usage 6 (RFC 4120, sections 3.3.2 and 7.5.1). Test:
     -- `tgs checksum differs`, `tgs checksum wrong usage`, `tgs body changed after the checksum`.
     (refuse (not (is_of_body (cipher_checksum suite) key body checksum)) KRB_AP_ERR_MODIFIED
     (done (Ok tt)))))
@@ -149,8 +149,8 @@ reply_key suite key (Some subkey) = under_subkey subkey
 
 -- the service ticket: client, authtime and flag pre-authent are the presented ticket's, and the flag initial isn't set (RFC 4120,
 -- section 5.3)
-abbrev pub further_ticket : CallRecord → EncTicketPartInner → PrincipalName → CipherSuite → KdcReqBody → Span → GrantRecord
-further_ticket call part service suite body span = record {
+abbrev pub further_grant : CallRecord → EncTicketPartInner → PrincipalName → CipherSuite → KdcReqBody → Span → GrantRecord
+further_grant call part service suite body span = record {
   suite = suite;
   session = session_key_of suite call.words;
   realm = call.realm;
@@ -158,8 +158,8 @@ further_ticket call part service suite body span = record {
   service = service;
   flags = record { initial = false; pre_authenticated = bit_of part.flags.0 PRE_AUTHENT };
   auth_time = part.auth_time.0.0;
-  start = span.start;
-  until = span.until;
+  starttime = span.starttime;
+  endtime = span.endtime;
   nonce = body.nonce.0;
 }
 
@@ -171,11 +171,12 @@ further call part authenticated service_name service body =
     -- `tgs no known suite`, `tgs first known suite` of `five_suites.txt`.
     need (first_known body.etype.0) KDC_ERR_ETYPE_NOSUPP (λ suite.
     -- The reply key is the subkey, for key usage 9, whose type and length are a suite's; without one it is the session key, for key
-    -- usage 8 (RFC 4120, sections 3.3.3 and 5.4.2). Test: `tgs subkey type`, `tgs subkey`, `tgs honest`.
+    -- usage 8 (RFC 4120, sections 3.3.3 and 5.4.2). Test: `tgs subkey type`, `tgs subkey length`, `tgs subkey`, `tgs honest` of
+    -- `five_suites.txt`.
     need (reply_key authenticated.suite part.key.0.key_value.0 (subkey_in authenticated.authenticator)) KRB_AP_ERR_BAD_INTEGRITY (λ under.
     -- The ticket has client, authtime and flag pre-authent of the presented ticket; the flag initial isn't set (RFC 4120, section
     -- 3.3.3). Test: `tgs honest`, `tgs ticket flags short`.
-    replied (further_ticket call part service_name suite body span) under service call.words)))
+    replied (further_grant call part service_name suite body span) under service call.words)))
 
 -- the name has an account
 abbrev pub has_account : CallRecord → PrincipalName → Bool
@@ -213,7 +214,7 @@ of_carried call body ap_req =
     (of_ticket call body ap_req))
 
 -- the whole table
--- Not judged: replay, since a realm remembers nothing between requests (RFC 4120, section 3.3.3). No test: the contract alone covers it.
+-- Not judged: replay, since a realm remembers nothing between requests (RFC 4120, section 3.3.2). No test: the contract alone covers it.
 -- Not judged: `from`, `rtime`, `addresses`, the body's `cname` and `additional-tickets` (RFC 4120, section 3.3.3). Test:
 -- `tgs from edges`, `tgs body client`, `tgs additional tickets`, `tgs rtime, addresses` of `five_suites.txt`.
 abbrev pub tgs_table : CallRecord → KdcReq → Table (Result Bytes Code)

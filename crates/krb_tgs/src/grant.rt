@@ -8,7 +8,7 @@ ghost use Rattle.krb_tickets.specs.Grant.{grant_of};
 ghost use Rattle.krb_tickets.specs.ReplyKeys.{reply_key_of};
 ghost use Rattle.krb_crypto.specs.Keys.{KeyRecord};
 ghost use Rattle.krb_tgs.specs.SessionKeys.{HasSessionKey, under};
-ghost use Rattle.krb_tgs.specs.TgsTable.{first_known, first_number, further, further_ticket, reply_key, subkey_in, suite_numbered};
+ghost use Rattle.krb_tgs.specs.TgsTable.{first_known, first_number, further, further_grant, reply_key, subkey_in, suite_numbered};
 
 use krb_accounts::Account;
 use krb_ap_requests::Authenticated;
@@ -57,7 +57,7 @@ pub(crate) fn grant(
         return Err(Refusal::Krb(error_codes::KRB_AP_ERR_BAD_INTEGRITY));
     };
     let under = reply_key(opened.key, &subkey);
-    let grant = further_ticket(alloc, call, part, service_name, suite, body, span)?;
+    let grant = further_grant(alloc, call, part, service_name, suite, body, span)?;
     let made = ticket_reply(alloc, &grant, &under, service, call.words);
     drop(grant);
     let reply = made?;
@@ -130,7 +130,7 @@ fn reply_key<'a>(session: &'a Key, subkey: &'a Option<Key>) -> ReplyKey<'a>
 }
 
 // Makes what the service ticket is granted with: client, authtime and flag pre-authent are the presented ticket's.
-fn further_ticket<'a>(
+fn further_grant<'a>(
     alloc: Global,
     call: &Call<'a>,
     part: &'a EncTicketPartInner,
@@ -140,7 +140,7 @@ fn further_ticket<'a>(
     span: Span,
 ) -> Result<Grant<'a>, AllocError>
     requires { AreEnoughForReply call.now.words.now }
-    ensures { IfOk result (λ grant. grant_of grant ≡ further_ticket (call_of call.now) part.now service_name.now suite body.now span) }
+    ensures { IfOk result (λ grant. grant_of grant ≡ further_grant (call_of call.now) part.now service_name.now suite body.now span) }
 {
     let session = session_key(alloc, suite, call.words)?;
     Ok(Grant {
@@ -154,8 +154,8 @@ fn further_ticket<'a>(
             pre_authenticated: part.flags.0.bit(ticket_flags::PRE_AUTHENT),
         },
         auth_time: part.auth_time.0.0,
-        start: span.start,
-        until: span.until,
+        starttime: span.starttime,
+        endtime: span.endtime,
         nonce: &body.nonce.0,
     })
 }

@@ -2,7 +2,7 @@
 ghost use Rattle.std.specs.Prelude.{◌≡◌};
 ghost use Rattle.krb_kdc_requests.specs.Call.{call_of};
 ghost use Rattle.krb_types.specs.TicketGranting.{krbtgt_of};
-ghost use Rattle.krb_tgs.specs.TgsTable.{carried, counting, authenticated_near, ticket_granting, to_us};
+ghost use Rattle.krb_tgs.specs.TgsTable.{carried, client_and_times, authenticated_near, ticket_granting, to_us};
 ghost use Rattle.krb_types.specs.Refusals.{IsJudged};
 
 use krb_accounts::Account;
@@ -60,13 +60,13 @@ pub(crate) fn open_ticket_granting(
 {
     check_fields(call.realm, name, granting.kvno(), ap_req)?;
     let part = open_ticket(alloc, granting.key(), enc_part_in(ap_req))?;
-    let judged = check_counting(call, &part);
+    let judged = check_client_and_times(call, &part);
     if_passed(part, judged)
 }
 
 // Judges whether the ticket's client is one of this realm, and the ticket is valid at the moment.
-fn check_counting(call: &Call<'_>, part: &EncTicketPartInner) -> Result<(), Refusal>
-    ensures { IsJudged (counting (call_of call.now) part.now).gives result }
+fn check_client_and_times(call: &Call<'_>, part: &EncTicketPartInner) -> Result<(), Refusal>
+    ensures { IsJudged (client_and_times (call_of call.now) part.now).gives result }
 {
     if !is_same_realm(&part.crealm.0, call.realm) {
         return Err(Refusal::Krb(error_codes::KDC_ERR_WRONG_REALM));

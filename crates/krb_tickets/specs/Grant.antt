@@ -17,8 +17,8 @@ pub record GrantRecord : Type 0 where
   pub service : PrincipalName
   pub flags : TicketFlags
   pub auth_time : GeneralizedTime
-  pub start : GeneralizedTime
-  pub until : GeneralizedTime
+  pub starttime : GeneralizedTime
+  pub endtime : GeneralizedTime
   pub nonce : ℤ
 
 -- the grant of the code, as definitions see it
@@ -31,7 +31,7 @@ grant_of this = record {
   service = this.service.now;
   flags = this.flags;
   auth_time = this.auth_time;
-  start = this.start;
-  until = this.until;
+  starttime = this.starttime;
+  endtime = this.endtime;
   nonce = this.nonce.now;
 }

@@ -67,8 +67,8 @@ ticket_part grant = record {
   cname = record { 0 = grant.client };
   transited = record { 0 = no_realms };
   auth_time = record { 0 = record { 0 = grant.auth_time } };
-  starttime = record { 0 = Some (record { 0 = record { 0 = grant.start } }) };
-  endtime = record { 0 = record { 0 = grant.until } };
+  starttime = record { 0 = Some (record { 0 = record { 0 = grant.starttime } }) };
+  endtime = record { 0 = record { 0 = grant.endtime } };
   renew_till = record { 0 = None };
   caddr = record { 0 = None };
   authorization_data = record { 0 = None };
@@ -78,13 +78,13 @@ ticket_part grant = record {
 unfoldable pub reply_part : GrantRecord → EncKdcRepPart
 reply_part grant = record {
   key = record { 0 = encryption_key grant.suite grant.session };
-  last_req = record { 0 = last_requests grant.start };
+  last_req = record { 0 = last_requests grant.starttime };
   nonce = record { 0 = grant.nonce };
   key_expiration = record { 0 = None };
   flags = record { 0 = flags_of grant.flags };
   auth_time = record { 0 = record { 0 = grant.auth_time } };
-  start_time = record { 0 = Some (record { 0 = record { 0 = grant.start } }) };
-  end_time = record { 0 = record { 0 = grant.until } };
+  start_time = record { 0 = Some (record { 0 = record { 0 = grant.starttime } }) };
+  end_time = record { 0 = record { 0 = grant.endtime } };
   renew_till = record { 0 = None };
   srealm = record { 0 = grant.realm };
   sname = record { 0 = grant.service };

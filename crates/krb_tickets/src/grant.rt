@@ -35,12 +35,12 @@ pub struct Grant<'a> {
     pub service: &'a PrincipalName,
     /// The ticket's flags.
     pub flags: TicketFlags,
-    /// The second in which the client authenticated: the start, or that of the presented ticket.
+    /// The second in which the client authenticated: the starttime, or that of the presented ticket.
     pub auth_time: GeneralizedTime,
     /// The second that the ticket starts in.
-    pub start: GeneralizedTime,
+    pub starttime: GeneralizedTime,
     /// The second that the ticket ends in.
-    pub until: GeneralizedTime,
+    pub endtime: GeneralizedTime,
     /// The request's nonce, which the reply repeats.
     pub nonce: &'a IntegerAsn1,
 }

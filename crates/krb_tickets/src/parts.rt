@@ -44,8 +44,8 @@ pub(crate) fn ticket_part(
         cname: ExplicitContextTag(names.1.0),
         transited: ExplicitContextTag(transited),
         auth_time: ExplicitContextTag(GeneralizedTimeAsn1(grant.auth_time)),
-        starttime: Optional(Some(ExplicitContextTag(GeneralizedTimeAsn1(grant.start)))),
-        endtime: ExplicitContextTag(GeneralizedTimeAsn1(grant.until)),
+        starttime: Optional(Some(ExplicitContextTag(GeneralizedTimeAsn1(grant.starttime)))),
+        endtime: ExplicitContextTag(GeneralizedTimeAsn1(grant.endtime)),
         renew_till: Optional(None),
         caddr: Optional(None),
         authorization_data: Optional(None),
@@ -58,7 +58,7 @@ pub(crate) fn reply_part(alloc: Global, grant: &Grant<'_>) -> Result<EncKdcRepPa
     ensures { IfOk result (λ part. part ≡ reply_part (grant_of grant.now)) }
 {
     let key = encryption_key(alloc, grant.suite, &grant.session);
-    let last_req = last_requests(alloc, grant.start);
+    let last_req = last_requests(alloc, grant.starttime);
     let flags = flags_of(alloc, grant.flags);
     let copies = (grant.nonce, (grant.realm, (grant.service, ()))).copied();
     let ((key, last_req), (flags, copies)) = both(both(key, last_req), both(flags, copies))?;
@@ -69,8 +69,8 @@ pub(crate) fn reply_part(alloc: Global, grant: &Grant<'_>) -> Result<EncKdcRepPa
         key_expiration: Optional(None),
         flags: ExplicitContextTag(flags),
         auth_time: ExplicitContextTag(GeneralizedTimeAsn1(grant.auth_time)),
-        start_time: Optional(Some(ExplicitContextTag(GeneralizedTimeAsn1(grant.start)))),
-        end_time: ExplicitContextTag(GeneralizedTimeAsn1(grant.until)),
+        start_time: Optional(Some(ExplicitContextTag(GeneralizedTimeAsn1(grant.starttime)))),
+        end_time: ExplicitContextTag(GeneralizedTimeAsn1(grant.endtime)),
         renew_till: Optional(None),
         srealm: ExplicitContextTag(copies.1.0),
         sname: ExplicitContextTag(copies.1.1.0),

@@ -31,8 +31,8 @@ name_text [] = []
 name_text (component ∷ components) =
     component_text component ++ flat_map (λ further. 47 ∷ component_text further) components
 
--- A name in its realm is printed as `host/server@REALM`. Within a component, a backslash precedes `/`, `@` and a backslash (RFC 1964,
--- section 2.1.3). Test: `names` of `texts.rt`.
+-- A name in its realm is printed as `host/server@REALM`. In a component and in the realm, a backslash precedes `/`, `@` and a backslash.
+-- NUL, backspace, tab and newline are `\0`, `\b`, `\t` and `\n` there (RFC 1964, section 2.1.3). Test: `names` of `texts.rt`.
 abbrev pub principal_text : List (List ℕ) → List ℕ → List ℕ
 principal_text components realm = name_text components ++ 64 ∷ component_text realm
 

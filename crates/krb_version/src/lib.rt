@@ -1,6 +1,6 @@
 //! The version of this repository's programs.
 //!
-//! `VERSION` is what `--version` of `krb_kdcd`, `krb_accounts` and `krb_keytab` says after the program's name.
+//! `VERSION` is what `--version` of a program says after the program's name.
 #![tactic(auto)]
 
 /// The version: the newest of the changelog, or what comes after it.

@@ -53,6 +53,7 @@ pub record IsPut {V : Type 0} (l : Layout V) (v : V) (o : ℕ) (old new data_old
 
 -- Nothing is written if memory ran out, or if the payload ends past 32 bits (InvalidInput) (MS-NEGOEX, section 2.2.6.2). No test: such a
 -- payload has 4 GiB.
--- Not judged: cbHeaderLength and cbMessageLength, which aren't compared with the bytes. Test: `values` of `negoex.rt`.
+-- Not judged: cbHeaderLength and cbMessageLength, which aren't compared with the bytes. Test: `checksums`, `offsets_at_the_end` of
+-- `negoex.rt`.
 abbrev pub IsTooLong : ℕ → ℕ → NegoexError → Type 0
 IsTooLong o n e = (e.kind ≡ OutOfMemory) ⊎ ((e.kind ≡ InvalidInput) × (2 ^ 32 ≤ o + n))

@@ -58,7 +58,7 @@ abbrev pub bodies : {V : Type 0} → Layout V → ℕ → List V → List ℕ
 bodies l place [] = []
 bodies l place (x ∷ xs) = l.body x place ++ bodies l (place + l.payload x) xs
 
--- A vector without elements is written with offset 0 (MS-NEGOEX, section 2.2.5.2). Test: `offsets_at_the_end` of `negoex.rt`.
+-- A vector without elements is written with offset 0 (MS-NEGOEX, section 2.2.5.2). Test: `extensions` of `negoex.rt`.
 abbrev pub offset_of : {V : Type 0} → List V → ℕ → ℕ
 offset_of [] o = 0
 offset_of (x ∷ xs) o = o
@@ -68,7 +68,8 @@ abbrev pub behind_heads : {V : Type 0} → Layout V → List V → ℕ → ℕ
 behind_heads l xs o = o + length xs * l.width
 
 -- A vector is the offset of its elements in octets 0 to 3 of the header, their count in 4 to 7, and the elements at the offset. Without
--- elements the offset may be any (MS-NEGOEX, section 2.2.5.2). Test: `schemes_and_extensions` of `negoex.rt`; `second_vector_over_first`.
+-- elements the offset may be any (MS-NEGOEX, section 2.2.5.2). Test: `schemes_and_extensions`, `offsets_at_the_end` of `negoex.rt`;
+-- `second_vector_over_first`.
 abbrev pub vector_layout : {V : Type 0} → Layout V → Layout (List V)
 vector_layout l = record {
   width = 8;

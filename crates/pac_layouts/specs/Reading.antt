@@ -45,7 +45,7 @@ info_at stop place whole = and_then (kind_at stop place whole) (λ kind. fields_
 -- Not judged: that an Offset is a multiple of 8 (MS-PAC, section 2.4). Test: `ranges` of `pac.rt`.
 abbrev pub content_at : Option ErrorKind → PacInfoBuffer → List ℕ → Result Buffer PacError
 content_at stop info whole =
-    -- A content ends within the bytes (MS-PAC, section 2.4). Test: `ranges` of `pac.rt`, `wrong_pacs` of `failing.rt`.
+    -- A content ends within the bytes (MS-PAC, section 2.4). Test: `refusals` of `pac.rt`.
     if nat_lt (length whole) (info.offset + info.cb_buffer_size) then Err (range_of stop)
     else Ok (record { info = info; content = take info.cb_buffer_size (drop info.offset whole) })
 

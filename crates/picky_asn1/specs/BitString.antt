@@ -8,7 +8,7 @@ pub record Bits : Type 0 where
   pub unused : ℕ
 
 -- At most 7 bits are unused, and they are zero; where there is no octet none is unused (X.690, sections 8.6.2 and 11.2.1). Test:
--- `unused_bits` of `leaves.rt`; `as bits unused not zero!`.
+-- `tgs bits 8 unused!`, `as bits unused not zero!`, `as bits unused of nothing!`.
 abbrev pub is_bit_string : Bits → Bool
 is_bit_string bits =
     nat_le bits.unused (if length bits.octets == 0 then 0 else 7)

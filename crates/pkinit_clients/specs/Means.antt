@@ -25,8 +25,8 @@ use Rattle.pkinit_clients.specs.Asked.{PkinitAskedRecord}
 use Rattle.pkinit_clients.specs.Replies.{secret_of}
 use Rattle.pkinit_clients.specs.Requests.{IsNoPkAsReq, IsPkAsReqOf, sole_pk_as_req}
 
--- The padata of a request with this body, at the moment, has the type PA-PK-AS-REQ (RFC 4556, section 3.1.3).
--- Test: `a@R for h, test` of `pkinit_steps.txt`.
+-- The padata of a request has the type PA-PK-AS-REQ. Its padata-value is a PA-PK-AS-REQ for this body, at the moment (RFC 4556,
+-- sections 3.1.3 and 3.2.1). Test: `a@R for h, test` of `pkinit_steps.txt`.
 pub record IsPkinitPadata (keys : KeysRecord) (certificate : Bytes) (body : KdcReqBody) (moment : Micros) (words : Random) (padata : PaData) : Type 0 where
   pub value : Bytes
   pub is_request : IsPkAsReqOf keys certificate body moment (agreement_part words) value

@@ -91,7 +91,7 @@ of_content keys judging content =
 -- Judges the octets of signedAuthPack.
 abbrev pub of_signed : KeysRecord → JudgingRecord → Bytes → Table (Result AgreedRecord Code)
 of_signed keys judging bytes =
-    -- The octets of signedAuthPack are a ContentInfo with SignedData of the one form (RFC 4556, section 3.2.1; RFC 5652, section 5).
+    -- The octets of signedAuthPack are a ContentInfo with SignedData of the one form (RFC 4556, section 3.2.1; RFC 5652, sections 3 and 5).
     -- Test: `signed content: no certificate`, `signed content: crls`.
     ask (IsSignedContent bytes) (one_content bytes) (done (Err KDC_ERR_PREAUTH_FAILED)) (of_content keys judging)
 

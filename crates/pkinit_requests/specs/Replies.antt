@@ -28,7 +28,7 @@ abbrev pub dh_key_data : List ℕ
 dh_key_data = oids.pkinit_dhkey_data
 
 -- KDCDHKeyInfo has the realm's subjectPublicKey and the nonce of pkAuthenticator. It has no dhKeyExpiration, since the realm uses its
--- value once (RFC 4556, section 3.2.3.1). Test: `granted a suite 18`.
+-- value once (RFC 4556, section 3.2.3.1). Test: `granted a suite 18`, `granted, nonces differ (twin)`.
 abbrev pub key_info_of : Bits → ℤ → KdcDhKeyInfo
 key_info_of value nonce = record {
   subject_public_key = record { 0 = value };
@@ -52,7 +52,7 @@ dh_reply_bytes reply = der (reply_impl.ghosts.tree reply)
 -- The PA-PK-AS-REP to a pkAuthenticator with this nonce: the public value of the random bytes, signed by the holder of the certificate.
 abbrev pub pk_as_rep : KeysRecord → Bytes → ℤ → Random → Table (Result Bytes Code)
 pk_as_rep keys certificate nonce words =
-    -- The KDC's key agreement has a public value, which is the subjectPublicKey of KDCDHKeyInfo (RFC 4556, section 3.2.3.1).
+    -- The KDC's key agreement has a public value, whose BIT STRING is the subjectPublicKey of KDCDHKeyInfo (RFC 4556, section 3.2.3.1).
     -- Test: `public_value none`, `public_value none, client e`.
     need (keys.public_value (agreement_bytes words)) KRB_ERR_GENERIC (λ element.
     -- The KDC's public value is a SEQUENCE of any element and a BIT STRING (RFC 5280, section 4.1.2.7).

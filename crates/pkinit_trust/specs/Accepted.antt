@@ -45,14 +45,15 @@ abbrev pub has_unrecognised : Certificate → Bool
 has_unrecognised certificate = list_any is_unrecognised (extensions_in certificate.tbs_certificate.extensions.tagged.0)
 
 -- Judges a certificate under the anchor: its validity, its issuer, its critical extensions and its signature.
--- Not judged: keyUsage, extKeyUsage (id-pkinit-KPClientAuth, id-pkinit-KPKdc) and basicConstraints (RFC 4556, sections 3.2.2 and 3.2.4).
--- Test: `critical key usage and constraints`, `CA TRUE client certificate`.
+-- Not judged: keyUsage, extKeyUsage (id-pkinit-KPClientAuth, id-pkinit-KPKdc) and basicConstraints (RFC 4556, sections 3.2.2 and 3.2.4;
+-- RFC 5280, section 4.2.1.9). Test: `critical key usage and constraints`, `CA TRUE client certificate`.
 -- Not judged: revocation, and the validity and the extensions of the anchor's own certificate (RFC 5280, section 6.1).
--- No test: no row has a list of revocation.
+-- Test: `first microsecond of 0000`.
 abbrev pub issued : KeysRecord → ExpectedRecord → ReadRecord → Table (Result (Unit {0}) TrustRefusal)
 issued keys expected read =
     -- The second of the moment is not before notBefore and not after notAfter (RFC 5280, section 6.1.3).
-    -- Test: `validity ends in this second, moment plus 999999`, `certificate ended a second ago`.
+    -- Test: `certificate begins a second later, moment plus 999999`, `certificate ended a second ago`,
+    -- `validity ends in this second, moment plus 999999`.
     refuse (not (is_valid_at expected.moment read.certificate.tbs_certificate.validity)) InvalidCertificate
     -- The issuer is the anchor's subject, as DER: a PrintableString is not a UTF8String (RFC 5280, section 6.1.3).
     -- Test: `another issuer`, `issuer in Printable`.

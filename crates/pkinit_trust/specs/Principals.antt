@@ -75,7 +75,7 @@ element_of certificate = first_among element_held (extensions_in certificate.tbs
 abbrev pub named : ExpectedRecord → Certificate → Table (Result (Unit {0}) TrustRefusal)
 named expected certificate =
     -- A subjectAltName has an otherName of the type id-pkinit-san, of which the first counts (RFC 4556, section 3.2.2).
-    -- Test: `no names`, `two subject alternative names, the principal in the second`.
+    -- Test: `no names`, `two subject alternative names, the principal in the second`, `first of two is another`.
     need (element_of certificate) NameMismatch (λ element.
     -- The value of this otherName is the one DER encoding of a KRB5PrincipalName (RFC 4556, section 3.2.2).
     -- Test: `first of two doesn't read`, `name type not minimal`.

@@ -64,10 +64,10 @@ fn principal_in(
 fn element_of(certificate: &Certificate) -> Option<&RawElement>
     ensures { option_copied result ≡ element_of certificate.now }
 {
-    first_held(certificate.extensions())
+    first_element_held(certificate.extensions())
 }
 
-fn first_held(extensions: &[Extension]) -> Option<&RawElement>
+fn first_element_held(extensions: &[Extension]) -> Option<&RawElement>
     ensures { option_copied result ≡ first_among element_held extensions.now }
 {
     let mut rest = extensions;

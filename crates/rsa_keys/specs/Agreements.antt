@@ -22,7 +22,7 @@ their_number group (WholeValue element) = value_number group (raw_bytes element)
 their_number group (ValueBits bits) = bits_number bits
 
 -- The secret that is shared with the peer by the own secret number. There is one for a value of the party's group in its range alone (RFC
--- 4556, section 3.2.2). Test: `agree 2`, `agree 14`, `agree 16`.
+-- 4556, sections 3.2.2 and 3.2.3.1; RFC 2631, section 2.1.5). Test: `agree 2`, `agree 14`, `agree 16`.
 abbrev pub agreed : Group → TheirValue → Bytes → Option Bytes
 agreed group theirs secret = option_and_then (λ number. shared_of group (unsigned_octets (pos number)) secret) (their_number group theirs)
 

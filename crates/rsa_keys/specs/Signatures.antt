@@ -36,7 +36,7 @@ hash_named arc =
     else if nat_eq arc 13 then Ok Sha512
     -- A signature isn't over MD5 (RFC 6151, section 2). Test: `check Md5`.
     else if nat_eq arc 4 then Err Md5
-    -- A signature isn't over SHA-1 (RFC 8017, section 8.2). Test: `check Sha1`.
+    -- A signature isn't over SHA-1 (RFC 8017, appendix B.1). Test: `check Sha1`.
     else if nat_eq arc 5 then Err Sha1
     -- A signature is RSASSA-PKCS1-v1_5 with SHA-256, SHA-384 or SHA-512 (RFC 8017, section 8.2). Test: `check OtherAlgorithm`.
     else Err OtherAlgorithm

@@ -3,7 +3,7 @@
 //! [`PublicKey::verifies`] is true exactly where the RFC's definition says so: a signature is one row of octets, as long as the modulus.
 //! [`PrivateKey::sign`] returns the RFC's signature if that verifies under the public key, and `None` else. So whatever it returns
 //! verifies, for every pair of keys. It signs by the two primes where the key has them, and else by the exponent. [`PublicKey::new`]
-//! refuses a weak, even or malformed key, each by its name, and takes every other.
+//! refuses a weak, long, even or malformed key, each by its name, and takes every other.
 //! Signing has no branch on the bits of a private exponent. SHA-1 and MD5 have no name here.
 #![tactic(auto)]
 

@@ -16,7 +16,7 @@ abbrev pub NameSets : Type 0
 NameSets = List (List AttributeTypeAndValue)
 
 -- A TBSCertificate ends with its extensions: issuerUniqueID and subjectUniqueID are refused (RFC 5280, section 4.1.2.8).
--- No test: the contract alone covers it.
+-- Test: `certificate with a unique identifier` of `read.txt`.
 abbrev pub TbsRow : Type 0
 TbsRow =
     DefaultField VersionField × (ℤ × (AlgorithmIdentifier × (NameSets × (Validity × (NameSets × (SubjectPublicKeyInfo × CertificateExtensions))))))

@@ -7,7 +7,7 @@ abbrev pub has_some : {A : Type 0} → List A → Bool
 has_some [] = false
 has_some (first ∷ rest) = true
 
--- An empty list of extensions is refused (RFC 5280, section 4.1.2.9). No test: the contract alone covers it.
+-- An empty list of extensions is refused (RFC 5280, section 4.1.2.9). Test: `certificate, empty extensions` of `read.txt`.
 abbrev pub is_written : Option (Explicit 3 (List Extension)) → Bool
 is_written None = true
 is_written (Some field) = has_some field.0

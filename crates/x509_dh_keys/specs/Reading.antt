@@ -25,7 +25,7 @@ Reads bytes weak (Ok value) = (bytes ≡ value_bytes value.group value.number) �
 Reads bytes weak (Err Unreadable) = (info : DhPublicKeyInfo) → has_low_number info.algorithm.first ≡ true → bytes ≢ info_bytes info
 Reads bytes weak (Err UnknownGroup) = IsInfo bytes × ((group : Group) (number : ℤ) → bytes ≢ value_bytes group number)
 Reads bytes weak (Err GroupTooWeak) = (number : ℤ) × (bytes ≡ value_bytes Modp1024 number) × (weak ≡ Refused)
--- A public value is a number of 2 to the prime less 2 (RFC 2631, section 2.1.5). Test: `read OutOfRange`.
+-- A public value is a number of 2 to the prime less 2 (RFC 7919, section 5.1). Test: `read OutOfRange`.
 Reads bytes weak (Err OutOfRange) =
     (group : Group) × (number : ℤ) × (bytes ≡ value_bytes group number) × (is_value group number ≡ false) × (group ≡ Modp1024 → weak ≢ Refused)
 Reads bytes weak (Err Memory) = Unit {0}
@@ -37,6 +37,6 @@ ReadsBits bits group (Ok value) = (bits ≡ record { octets = integer_bytes valu
 ReadsBits bits group (Err Unreadable) = (number : ℤ) → bits ≢ record { octets = integer_bytes number; unused = 0 }
 ReadsBits bits group (Err UnknownGroup) = ⊥
 ReadsBits bits group (Err GroupTooWeak) = ⊥
--- A public value in bits is a number of 2 to the prime less 2 (RFC 2631, section 2.1.5). Test: `bits OutOfRange`.
+-- A public value in bits is a number of 2 to the prime less 2 (RFC 7919, section 5.1). Test: `bits OutOfRange`.
 ReadsBits bits group (Err OutOfRange) = (number : ℤ) × (bits ≡ record { octets = integer_bytes number; unused = 0 }) × (is_value group number ≡ false)
 ReadsBits bits group (Err Memory) = Unit {0}

@@ -15,7 +15,7 @@ abbrev pub is_natural : ℤ → Bool
 is_natural (pos n) = true
 is_natural (negsuc n) = false
 
--- the number is one of 2 to the prime less 2 (RFC 2631, section 2.1.5)
+-- the number is one of 2 to the prime less 2 (RFC 7919, section 5.1)
 abbrev pub is_value : Group → ℤ → Bool
 is_value group number = is_natural number && in_range group (unsigned_octets number)
 

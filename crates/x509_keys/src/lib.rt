@@ -1,8 +1,8 @@
 //! Public keys of X.509, of RSA, of elliptic curves and of ML-DSA (RFC 5280, section 4.1.2.7; RFC 8017).
 //!
 //! A public key is read only of the kind that the algorithm's identifier decides. Its deviations are counted, and it is written in DER
-//! (`Spelled` of `SubjectPublicKeyInfo`). `SubjectPublicKeyInfo::new` refuses a key of another kind as `Meaning`, and the other makers
-//! return what their names say.
+//! (`Spelled` of `SubjectPublicKeyInfo`). `SubjectPublicKeyInfo::new` and `new_ed_key` refuse a key of another kind as `Meaning`. The other
+//! makers return what their names say.
 #![tactic(auto)]
 
 mod key_identifiers;

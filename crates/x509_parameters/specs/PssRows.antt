@@ -10,7 +10,7 @@ abbrev pub PssRow : Type 0
 PssRow = Explicit 0 HashAlgorithm × (Explicit 1 MaskGenAlgorithm × (Explicit 2 ℤ × ⊤))
 
 -- RSASSA-PSS-params has hashAlgorithm, maskGenAlgorithm and saltLength, also where DEFAULT would leave one out. A trailerField is refused,
--- and SHA-1 too (RFC 8017, appendix A.2.3). Test: `300D06092A864886F70D01010A3000` of `standards.txt`, and the rows before and after it.
+-- and SHA-1 too (RFC 8017, appendix A.2.3). Test: `PSS, no salt`, `PSS, trailer field`, `PSS with SHA-1` of `read.txt`.
 abbrev pub pss_row : RsassaPssParams → PssRow
 pss_row v = (v.hash_algorithm, (v.mask_gen_algorithm, (v.salt_length, tt)))
 

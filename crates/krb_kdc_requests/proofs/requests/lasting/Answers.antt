@@ -6,10 +6,10 @@ use Rattle.krb_kdc_requests.proofs.requests.lasting.Goals as goal
 
 pub returns-then-is_ended : goal.returns-then-is_ended
 returns-then-is_ended c =
-    lasting_refused c.args.settings.lifetime c.args.moment (option_map seconds_of c.args.old) c.args.body.now (record { start = c.start_of-start.result; until = c.end_of-until.result })
-    c.start_of-start.ensures c.end_of-until.ensures (sym c.is_ended.ensures ∙ c.if-is_ended.true)
+    lasting_refused c.args.settings.lifetime c.args.moment (option_map seconds_of c.args.old) c.args.body.now (record { starttime = c.start_of-starttime.result; endtime = c.end_of-endtime.result })
+    c.start_of-starttime.ensures c.end_of-endtime.ensures (sym c.is_ended.ensures ∙ c.if-is_ended.true)
 
 pub returns : goal.returns
 returns c =
-    lasting_given c.args.settings.lifetime c.args.moment (option_map seconds_of c.args.old) c.args.body.now (record { start = c.start_of-start.result; until = c.end_of-until.result })
-    c.start_of-start.ensures c.end_of-until.ensures (sym c.is_ended.ensures ∙ c.if-is_ended.false)
+    lasting_given c.args.settings.lifetime c.args.moment (option_map seconds_of c.args.old) c.args.body.now (record { starttime = c.start_of-starttime.result; endtime = c.end_of-endtime.result })
+    c.start_of-starttime.ensures c.end_of-endtime.ensures (sym c.is_ended.ensures ∙ c.if-is_ended.false)

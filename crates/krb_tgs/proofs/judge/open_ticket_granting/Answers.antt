@@ -6,7 +6,7 @@ use Rattle.krb_types.specs.declared.data_types.enc_ticket_part.EncTicketPartInne
 use Rattle.krb_types.specs.declared.data_types.encrypted_data.EncryptedData.{EncryptedData}
 use Rattle.krb_ap_requests.specs.ApTable.{ap_fields, opened_part}
 use Rattle.krb_kdc_requests.specs.Call.{call_of}
-use Rattle.krb_tgs.proofs.Judged.{fields_refused, judged_counting, unopened}
+use Rattle.krb_tgs.proofs.Judged.{fields_refused, judged_client_and_times, unopened}
 use Rattle.krb_tgs.proofs.judge.open_ticket_granting.Goals as goal
 
 pub returns-in_err-check_fields : goal.returns-in_err-check_fields
@@ -27,5 +27,5 @@ returns-in_err-part c =
 
 pub returns : goal.returns
 returns c =
-    judged_counting (call_of c.args.call.now) c.args.granting.now c.args.ap_req.now c.kvno.result c.kvno.ensures.value c.key.result.now c.key.ensures
-    (rw c.requires at c.in_ok-check_fields.ensures) c.in_ok-part.part (rw c.enc_part_in.ensures at c.in_ok-part.ensures) c.check_counting-judged.result c.check_counting-judged.ensures c.if_passed.result c.if_passed.ensures.passed c.if_passed.ensures.refused
+    judged_client_and_times (call_of c.args.call.now) c.args.granting.now c.args.ap_req.now c.kvno.result c.kvno.ensures.value c.key.result.now c.key.ensures
+    (rw c.requires at c.in_ok-check_fields.ensures) c.in_ok-part.part (rw c.enc_part_in.ensures at c.in_ok-part.ensures) c.check_client_and_times-judged.result c.check_client_and_times-judged.ensures c.if_passed.result c.if_passed.ensures.passed c.if_passed.ensures.refused

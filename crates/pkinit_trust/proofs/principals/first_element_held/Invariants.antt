@@ -1,7 +1,7 @@
 use Rattle.std.proofs.Common.{◌≡◌, length}
 use Rattle.x509_certificates.specs.ExtensionsHeld.{first_among}
 use Rattle.pkinit_trust.specs.Principals.{element_held}
-use Rattle.pkinit_trust.proofs.principals.first_held.Given as goal
+use Rattle.pkinit_trust.proofs.principals.first_element_held.Given as goal
 
 abbrev pub invariant-extensions : goal.invariant-extensions
 invariant-extensions l = first_among element_held l.extensions ≡ first_among element_held l.rest
