@@ -8,7 +8,7 @@ CRATES := $(sort $(notdir $(patsubst %/src,%,$(wildcard crates/*/src))))
 REALM := out/realm
 
 .DEFAULT_GOAL := help
-.PHONY: help try messages certificate test listener check gate faults settings run clients logins pkinit gss initiator bench plant fmt docs budget crate-named bridge-there
+.PHONY: help try messages certificate test listener imports check gate faults settings run clients move logins pkinit gss initiator bench plant fmt docs budget crate-named bridge-there
 
 help: ## list the targets
 	@sed -n 's/^\([a-z]*\):[^#]*## /\1\t/p' Makefile | expand -t 14
@@ -22,11 +22,14 @@ messages: ## read, change and write messages through picky_krb, without proof: o
 certificate: ## read a certificate, without proof: one minute
 	cd crates/example_certificate && $(RT) try --data certificate.der=data/certificate.der </dev/null
 
-test: $(if $(CRATE),crate-named,listener) ## run every test and program without proof, or those of one crate: make test CRATE=test_der
+test: $(if $(CRATE),crate-named,listener imports) ## run every test and program without proof, or those of one crate: make test CRATE=test_der
 	RT="$(RT)" tools/test $(CRATE)
 
 listener: ## test examples/krb_listen before workers that are a stub: a minute
 	python3 -B examples/test_krb_listen.py
+
+imports: ## test examples/mit_accounts, which reads keytabs of MIT's realms: ten seconds
+	python3 -B examples/test_mit_accounts.py
 
 check: crate-named ## prove one crate and what it stands on: make check CRATE=krb_tgs
 	cd crates/$(CRATE) && $(RT) check
@@ -53,6 +56,9 @@ run: bridge-there $(REALM)/settings.toml ## serve a realm to stock clients on 12
 
 clients: ## log in to the realm with stock clients of MIT and Heimdal, step by step
 	examples/real_clients.sh
+
+move: ## move a realm from MIT's krb5kdc to krb_kdcd, and log in there with stock clients, step by step
+	examples/move_realm.sh
 
 logins: ## log in with krb_login at MIT's krb5kdc and Heimdal's kdc, step by step
 	examples/stock_kdcs.sh

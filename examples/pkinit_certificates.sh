@@ -5,6 +5,16 @@
 #
 # FOLDER gets anchor.pem, kdc.pem and client.pem, the same in DER (anchor.der, ..), and the keys anchor.key, kdc.key and client.key.
 # Nobody else can read the keys. Each certificate is valid for a year. DAYS, and KEY (what `openssl genpkey` gets), may say otherwise.
+# KDCs and clients of this project need KEY='-algorithm RSA -pkeyopt rsa_keygen_bits:2048'.
+#
+# Run it once for a realm: a second run replaces the authority in FOLDER, and no older certificate is trusted then. A further user:
+#
+#     export REALM=EXAMPLE.COM USER=bob HOLDER=bob; umask 077
+#     openssl req -new -newkey rsa:2048 -nodes -sha256 -config examples/pkinit.cnf -keyout bob.key -out bob.req
+#     openssl x509 -req -sha256 -days 365 -in bob.req -out bob.pem -extfile examples/pkinit.cnf -extensions client \
+#         -CA FOLDER/anchor.pem -CAkey FOLDER/anchor.key -set_serial "0x$(openssl rand -hex 16)"
+#
+# With USER=- HOLDER=kdc and `-extensions kdc`, of other files, it is the KDC's next certificate.
 set -eu
 [ $# -eq 3 ] || { echo "usage: $0 REALM USER FOLDER" >&2; exit 2; }
 export REALM="$1" USER="$2"

@@ -103,7 +103,8 @@ fn service_of(alloc: Global, keytab: &Keytab, name: &str) -> anyhow::Result<Serv
     Ok(made?)
 }
 
-// The key of this realm and name with the greatest kvno: of two with one kvno the later one.
+// The key of this realm and name with the greatest kvno. Of several with one kvno it is the first, as a KDC that writes its keys in their
+// order encrypts tickets under the first.
 fn newest_key(
     keytab: &Keytab,
     realm: &GeneralStringAsn1,
@@ -113,7 +114,7 @@ fn newest_key(
     let mut newest = None;
     for entry in keytab.records() {
         if let Some(key) = key_in(entry, realm, name) {
-            if kvno <= entry.kvno() {
+            if newest.is_none() || kvno < entry.kvno() {
                 kvno = entry.kvno();
                 newest = Some(key);
             }

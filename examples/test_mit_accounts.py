@@ -1,0 +1,121 @@
+#!/usr/bin/env python3
+"""Tests of examples/mit_accounts. usage: python3 -B examples/test_mit_accounts.py"""
+import os, struct, subprocess, sys, tempfile, unittest
+
+TOOL = os.path.join(os.path.dirname(os.path.abspath(__file__)), "mit_accounts")
+KRBTGT = (b"krbtgt", b"R")
+
+
+def counted(octets):
+    return struct.pack(">H", len(octets)) + octets
+
+
+def record(name, kvno, etype, key, realm=b"R", wide=None):
+    """A record of a keytab; `wide` is a kvno of 32 bits behind it."""
+    body = struct.pack(">H", len(name)) + counted(realm) + b"".join(map(counted, name)) + struct.pack(">II", 1, 0)
+    body += struct.pack(">BH", kvno, etype) + counted(key) + (struct.pack(">I", wide) if wide is not None else b"")
+    return struct.pack(">i", len(body)) + body
+
+
+def hole(size):
+    return struct.pack(">i", -size) + bytes(size)
+
+
+def keytab(*records):
+    return b"\5\2" + b"".join(records)
+
+
+def key(number, size=32):
+    return bytes([number]) * size
+
+
+class MitAccounts(unittest.TestCase):
+    def setUp(self):
+        self.folder = tempfile.TemporaryDirectory()
+        self.addCleanup(self.folder.cleanup)
+        self.text = os.path.join(self.folder.name, "accounts")
+
+    def run_tool(self, octets, realm="R"):
+        path = os.path.join(self.folder.name, "keytab")
+        with open(path, "wb") as file:
+            file.write(octets)
+        return subprocess.run([sys.executable, "-B", TOOL, path, realm, self.text], capture_output=True, text=True)
+
+    def made(self, *records):
+        ended = self.run_tool(keytab(record(KRBTGT, 1, 18, key(9)), *records))
+        self.assertEqual((ended.returncode, ended.stderr), (0, ""))
+        with open(self.text, encoding="ascii") as file:
+            lines = file.read().split("\n")
+        self.assertEqual((lines[0], lines[-1]), ("realm\tR\t300\t36000", ""))
+        return [line for line in lines[1:-1] if not line.startswith("krbtgt")]
+
+    def refused(self, octets, says, status=1):
+        ended = self.run_tool(octets)
+        self.assertEqual(ended.returncode, status)
+        self.assertIn(says, ended.stderr)
+        self.assertEqual(ended.stderr.count("\n"), 1)
+        self.assertNotIn("01" * 16, ended.stderr)
+        self.assertEqual(os.listdir(self.folder.name), ["keytab"])
+
+    def test_line(self):
+        self.assertEqual(self.made(record((b"a",), 2, 18, key(1))), ["a\taes256-cts-hmac-sha1-96\t2\t-\t" + "01" * 32])
+
+    def test_newest_kvno_in_any_order(self):
+        for old, new in (((1, 1), (2, 2)), ((2, 2), (1, 1))):
+            os.path.exists(self.text) and os.unlink(self.text)
+            lines = self.made(*(record((b"a",), kvno, 18, key(number)) for kvno, number in (old, new)))
+            self.assertEqual(lines, ["a\taes256-cts-hmac-sha1-96\t2\t-\t" + "02" * 32])
+
+    def test_first_known_suite_of_a_kvno(self):
+        keys = record((b"a",), 1, 23, key(1, 16)), record((b"a",), 1, 17, key(2, 16)), record((b"a",), 1, 18, key(3))
+        self.assertEqual(self.made(*keys), ["a\taes128-cts-hmac-sha1-96\t1\t-\t" + "02" * 16])
+
+    def test_kvno_of_32_bits(self):
+        self.assertEqual(self.made(record((b"a",), 1, 18, key(1), wide=257))[0].split("\t")[2], "257")
+        os.unlink(self.text)
+        self.assertEqual(self.made(record((b"a",), 1, 18, key(1), wide=0))[0].split("\t")[2], "1")
+
+    def test_holes_other_realms_and_kadmin_are_left_out(self):
+        others = record((b"b",), 1, 18, key(1), b"S"), record((b"K", b"M"), 1, 18, key(1)), record((b"kadmin", b"admin"), 1, 18, key(1))
+        self.assertEqual(self.made(hole(20), *others), [])
+
+    def test_names_in_the_order_of_components(self):
+        names = (b"a-b",), (b"a", b"c"), (b"a",)
+        lines = self.made(*(record(name, 1, 18, key(1)) for name in names))
+        self.assertEqual([line.split("\t")[0] for line in lines], ["a", "a/c", "a-b"])
+
+    def test_escapes(self):
+        lines = self.made(record((b"a/b@c\\d\te", b"f g"), 1, 18, key(1)))
+        self.assertEqual(lines[0].split("\t")[0], "a\\/b\\@c\\\\d\\te/f g")
+
+    def test_mode(self):
+        self.made()
+        self.assertEqual(os.stat(self.text).st_mode & 0o777, 0o600)
+
+    def test_refusals(self):
+        self.refused(b"\5\1", "no keytab of version 0x0502")
+        self.refused(keytab(record((b"a",), 1, 18, key(1))), "expected a key of krbtgt/R")
+        whole = keytab(record(KRBTGT, 1, 18, key(1)))
+        for size in range(3, len(whole)):
+            self.refused(whole[:size], "ends within a record")
+        first = record(KRBTGT, 1, 18, key(1))
+        self.refused(keytab(first, record((b"a",), 2, 23, key(1, 16)), record((b"a",), 1, 18, key(1))), "a: expected a key of AES or triple DES with kvno 2")
+        self.refused(keytab(first, record((b"a",), 1, 18, key(1, 16))), "a: expected a key")
+        self.refused(keytab(first, record((b"#a",), 1, 18, key(1))), "#a: a line that begins with #")
+        self.refused(keytab(first, record((b"\xc3\xa4",), 1, 18, key(1))), "characters of ASCII")
+        self.refused(keytab(first, record((b"",), 1, 18, key(1))), "1 to 16 components")
+        self.refused(keytab(first, record((b"a",), 0, 18, key(1))), "a: expected a kvno from 1 on")
+
+    def test_text_that_is_there_stays(self):
+        self.made()
+        ended = self.run_tool(keytab(record(KRBTGT, 1, 18, key(2))))
+        self.assertEqual(ended.returncode, 2)
+        self.assertIn("it is there already", ended.stderr)
+
+    def test_arguments_and_files(self):
+        for words, status in ((["--help"], 0), ([], 2), (["/nowhere/keytab", "R", self.text], 2)):
+            self.assertEqual(subprocess.run([sys.executable, "-B", TOOL, *words], capture_output=True).returncode, status)
+
+
+if __name__ == "__main__":
+    unittest.main()
