@@ -5,9 +5,9 @@
 #
 # FOLDER gets anchor.pem, kdc.pem and client.pem, the same in DER (anchor.der, ..), and the keys anchor.key, kdc.key and client.key.
 # Nobody else can read the keys. Each certificate is valid for a year. DAYS, and KEY (what `openssl genpkey` gets), may say otherwise.
-# KDCs and clients of this project need KEY='-algorithm RSA -pkeyopt rsa_keygen_bits:2048'.
+# This project needs RSA keys, as by KEY='-algorithm RSA -pkeyopt rsa_keygen_bits:2048'.
 #
-# Run it once for a realm: a second run replaces the authority in FOLDER, and no older certificate is trusted then. A further user:
+# Run it once for a realm: a second run replaces FOLDER's authority, and the new one trusts no older certificate. A further user:
 #
 #     export REALM=EXAMPLE.COM USER=bob HOLDER=bob; umask 077
 #     openssl req -new -newkey rsa:2048 -nodes -sha256 -config examples/pkinit.cnf -keyout bob.key -out bob.req
