@@ -510,6 +510,7 @@ def main():
     refuse("NoKerberos", der(0x60, oid(SPNEGO), der(0xA0, sequence((2, octet_string(token))))))
     refuse("NotAToken", negotiated(request, KRB5))
     refuse("NotAToken", negotiated(token, KRB5) + b"\0")
+    refuse("NotAToken", negotiated(token, KRB5).replace(SPNEGO, bytes.fromhex("2b0601050503")))
     accept(login)
     begin(suite)
     further_mics(suite)

@@ -41,8 +41,8 @@ def keytab(records):
     return whole.hex()
 
 
-def request(key, micros, kvno=None, etype=None, realm="R", service="h"):
-    """The AP-REQ of client a, with a ticket under a key, which may name another kvno (-1: none) and another etype."""
+def request(key, micros, kvno=None, etype=None, realm="R", service="h", usage=11):
+    """The AP-REQ of client a, with a ticket under a key, which may name another kvno (-1: none) and another etype. The usage is that of its authenticator."""
     own_kvno, suite, octets = key
     session = bytes(32)
     part = application(
@@ -54,7 +54,7 @@ def request(key, micros, kvno=None, etype=None, realm="R", service="h"):
     data = sequence((0, integer(etype or suite)), (1, None if number < 0 else integer(number)), (2, octet_string(sealed)))
     ticket = application(1, (0, integer(5)), (1, text(realm)), (2, name(service)), (3, data))
     own = application(2, (0, integer(5)), (1, text("R")), (2, name("a")), (4, integer(micros)), (5, der(0x18, TIME)))
-    own = encrypted(18, session, 11, bytes(16), own)
+    own = encrypted(18, session, usage, bytes(16), own)
     return application(14, (0, integer(5)), (1, integer(14)), (2, bits(0)), (3, ticket), (4, own))
 
 
@@ -80,9 +80,11 @@ def rows():
     yield 0, request(OLD, 6, etype=17), "Krb(45)", 5, "other etype"
     yield 0, request(OLD, 6, etype=17, kvno=-1), "Krb(45)", 5, "other etype and no kvno"
     yield 0, request(SECOND, 6, kvno=1), "Krb(45)", 5, "etype of another kvno"
+    yield 0, request(NEW, 6, etype=17), "Krb(45)", 5, "other etype of the second kvno"
     yield 0, request(ZERO, 6), "Krb(44)", 5, "other records: kvno 0"
     yield 0, request(OLD, 6, realm="Q"), "Krb(35)", 5, "other realm"
     yield 0, request(OLD, 6, service="g"), "Krb(35)", 5, "other name"
+    yield 0, request(OLD, 6, usage=7), "Krb(31)", 5, "authenticator for key usage 7"
     yield 0, b"", "Unreadable", 5, "no request"
     # The first key goes, and a later one comes.
     yield "keytab " + keytab([record(LATER), record(NEW)]) + " | Ok"
