@@ -31,7 +31,7 @@ exchanged size m n x = take (size * m) x ++ block_at size x (m + 1) ++ take (n -
 
 -- Ciphertext stealing is CBC with an initial vector of zeros (RFC 3962, section 5). Up to one block, c is the cipher of the
 -- zero-padded block. Of more, the last two blocks of the zero-padded text's chain are exchanged, even if the last one is whole. Then c is
--- its front, as long as the text p. Test: `cts`, `cbc` of `standards.txt`; `no_exchange_at_whole_block`.
+-- its front, as long as the text p. Test: `cts` of `standards.txt`.
 -- Ignored: the key's length where no octets are decrypted. Decryption refuses 1 to 15 octets (CipherLength), and then another length
 -- of the key (KeyLength). Test: `short_stolen` of `refusals.rt`.
 pub record IsStolen (size : ℕ) (E : List ℕ → List ℕ) (p c : List ℕ) : Type 0 where

@@ -12,7 +12,7 @@ unfoldable pub digits : ℕ → List ℕ
 digits number = digits_within number number
 
 -- Length octets are definite and minimal. A length below 128 is one octet. Another is the count of its digits, with bit 8 set, and the
--- digits (X.690, sections 8.1.3 and 10.1). Test: `refused_lengths` of `forms.rt`; `as length long!`.
+-- digits (X.690, sections 8.1.3 and 10.1). Test: `refused_lengths` of `forms.rt`.
 unfoldable pub length_octets : ℕ → List ℕ
 length_octets number = if nat_lt number 128 then number ∷ [] else (128 + length (digits number)) ∷ digits number
 

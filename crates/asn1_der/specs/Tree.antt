@@ -43,8 +43,9 @@ abbrev mutual
   AreWhole (more tree trees) = IsWhole tree × AreWhole trees
   AreWhole (bare octet trees) = AreWhole trees
 
--- The value is written as these bytes: they are the one encoding of its tree, in which nothing is missing. Nothing else is read as it
--- (X.690, section 10). Test: `as length long!`, `as integer padded FF!`.
+-- The value is written as these bytes: they are the one encoding of its tree, in which nothing is missing (X.690, section 10). Test:
+-- `messages.txt`.
+-- Nothing else than its one encoding is read as a value (X.690, section 10). Test: `as length long!`, `as integer padded FF!`.
 abbrev pub Writes : {T : Type 0} → (T → Tree) → T → List ℕ → Type 0
 Writes tree value bytes = IsWhole (tree value) × (bytes ≡ der (tree value))
 

@@ -3,8 +3,9 @@ use Rattle.std.specs.Prelude.{◌≡◌, ℕ, ◌+◌, ◌*◌, ◌/◌, ◌%◌
 use Rattle.asn1_leaves.specs.declared.date.GeneralizedTime.{GeneralizedTime}
 use Rattle.asn1_leaves.specs.Calendar.{day_number, days_of_months, two_digits}
 
--- A GeneralizedTime is `YYYYMMDDHHMMSSZ`, without a fraction of a second (X.690, section 11.7; RFC 4120, section 5.2.3). Test: `no_times`
--- of `leaves.rt`; `180d323030303031303130303030305a` of `odd.txt`;
+-- A GeneralizedTime is `YYYYMMDDHHMMSSZ` (X.690, section 11.7; RFC 4120, section 5.2.3). Test: `180e323030303031303130303030305a` of
+-- `odd.txt`.
+-- A GeneralizedTime has no fraction of a second (RFC 4120, section 5.2.3; RFC 5280, section 4.1.2.5.2). Test:
 -- `certificate, GeneralizedTime with fraction` of `read.txt`.
 abbrev pub calendar_text : ℕ → ℕ → ℕ → ℕ → ℕ → ℕ → List ℕ
 calendar_text year month day hour minute second =

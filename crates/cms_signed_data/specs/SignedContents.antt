@@ -13,7 +13,7 @@ use Rattle.cms_signed_data.specs.SignedParts.{SignedParts}
 abbrev pub IsOfForm : List ℕ → ContentInfo → Type 0
 IsOfForm bytes info = ((n : ℕ) × content_info.ghosts.spells info bytes n) × IsTrue (has_form info)
 
--- The certificate and the signed attributes are the input's own bytes (RFC 5652, section 5.1).
+-- The certificate and the signed attributes are the input's own bytes (RFC 5652, sections 5.1 and 5.3).
 -- Test: `good: certificate 10, 4 deviations in it, 1 in the three identifiers`.
 -- Not judged: message-digest may be any octets in what is read, and the signature too (RFC 5652, section 5.4).
 -- Test: `good: digest of no bytes`, `good: signature empty`.

@@ -28,7 +28,7 @@ abbrev pub sha256_algorithm : RawAlgorithmIdentifier
 sha256_algorithm = record { algorithm = record { 0 = oids.sha256 }; parameters = record { 0 = null } }
 
 -- The signed attributes are the eContentType, and the SHA-256 digest of the eContent octets in what is written (RFC 5652, section 5.4).
--- Test: `certificate 0, 0 deviations in it`, `rsa`.
+-- Test: `rsa` of `replay_crypto/data/openssl.txt`.
 abbrev pub attributes_of : List ℕ → List ℕ → SignedAttributes
 attributes_of content_type content = record {
   content_type = record { ty = record { 0 = oids.content_type }; values = record { 0 = record { 0 = content_type } } };
@@ -81,8 +81,10 @@ abbrev pub info_of : List ℕ → List ℕ → Certificate → Signed → Conten
 info_of content_type content value signed =
     info_with content_type content value (signer_of (id_of value) (attributes_of content_type content) signed)
 
--- The bytes are signed data of this type and content, and the party signed its signed attributes. The given bytes of the certificate are
--- in it unchanged, and nothing else deviates from DER (RFC 5652, sections 5.1, 5.4). Test: `certificate 38, 7 deviations in it`.
+-- What is written is signed data of this type and content, and the party signed its signed attributes (RFC 5652, sections 5.1, 5.4).
+-- Test: `certificate 0, 0 deviations in it` of `written.txt`.
+-- What is written has the given bytes of the certificate unchanged, and nothing else in it deviates from DER (RFC 5652, section 5.1).
+-- Test: `certificate 38, 7 deviations in it` of `written.txt`.
 pub record IsWritten (sign : List ℕ → Option Signed) (content_type content given bytes : List ℕ) : Type 0 where
   pub value : Certificate
   pub count : ℕ

@@ -51,12 +51,15 @@ pub data Step : Type 0 where
 -- the step after a token of Kerberos that is in a message of SPNEGO
 unfoldable pub held : Bytes → Exchange → Table (Result Step AcceptRefusal)
 held token exchange =
-    -- The mechanism's token in a message of SPNEGO is Kerberos' first token (RFC 4178, sections 4.2.1 and 4.2.2; RFC 4121, section 4.1).
-    -- Test: `other mechanisms, no mechanism, another token, and octets after it.`, `Not the token that is due.`.
+    -- The mechanism's token in a message of SPNEGO (mechToken, or later responseToken) is Kerberos' first token (RFC 4178, sections 4.2.1
+    -- and 4.2.2; RFC 4121, section 4.1). Test: `other mechanisms, no mechanism, another token, and octets after it.`,
+    -- `Not the token that is due.`.
     ask (IsApReqToken token) (sole_ap_req token) (done (Err NotAToken)) (λ message. done (Ok (AdmitRequest message (Some exchange))))
 
 -- the step after the tokens of SPNEGO's first message. If Kerberos' token isn't there, it is asked for
 abbrev pub opened_by : Mechanism → Terms → Option Bytes → Option Bytes → Table (Result Step AcceptRefusal)
+-- The first answer of SPNEGO names the mechanism in supportedMech, by the identifier that was offered (RFC 4178, section 4.2.2). Test:
+-- `SPNEGO: either identifier`, `Kerberos first, and no token`.
 opened_by mechanism terms None mic = done (Ok (AskFor mechanism terms))
 opened_by mechanism terms (Some token) mic = held token (record { supported = Some mechanism; terms = terms; mic = mic })
 
@@ -72,7 +75,8 @@ negotiated token = and_then (offered token) opened
 unfoldable pub carried : Bytes → Table (Result Step AcceptRefusal)
 carried token =
     -- A first token of Kerberos is the element 60 with the mechanism's identifier, the token id 01 00 and the AP-REQ, and nothing
-    -- follows it (RFC 4121, section 4.1; RFC 2743, section 3.1). Another token is one of SPNEGO. Test: `No such tokens.`.
+    -- follows it (RFC 4121, section 4.1; RFC 2743, section 3.1). Test: `No such tokens.`.
+    -- A first token that isn't one of Kerberos is taken as one of SPNEGO (RFC 4178, section 4.2). Test: `SPNEGO: either identifier`.
     ask (IsApReqToken token) (sole_ap_req token) (negotiated token) (λ message. done (Ok (AdmitRequest message None)))
 
 -- the step after the tokens of a later message, where Kerberos' first token is due
@@ -145,15 +149,15 @@ IsEstablished terms skew words admission (Err refusal) =
     (judged terms skew words admission ≡ Err refusal)
     ⊎ ((refusal ≡ Memory) × ((made : Judged) × (judged terms skew words admission ≡ Ok made)))
 
--- The service admits the AP-REQ, and the context is established. What is refused after the admission is remembered: the same token is
--- then a replay. Test: `Refused after the admission.`.
+-- Of an AP-REQ that the service admits the context is established, or refused. What is refused after the admission is remembered: the
+-- same token is then a replay (RFC 4120, section 3.2.3). Test: `Refused after the admission.`.
 abbrev pub Establishes : AcceptorRecord → Micros → Bytes → Random → Result EstablishedRecord AcceptRefusal → AcceptorRecord → Type 0
 Establishes acceptor moment message random result after =
     (after.terms ≡ acceptor.terms)
     × (((admission : AdmissionRecord)
     × Admits (fields_of acceptor.terms) acceptor.service moment message random (Ok admission) after.service
     × IsEstablished acceptor.terms acceptor.service.seen.skew random admission result)
-    -- The service refuses the AP-REQ, also one that it admitted before (RFC 4120, section 3.2.3). Test: `The same token`,
+    -- The service admits the AP-REQ; one that it admitted before is refused (RFC 4120, section 3.2.3). Test: `The same token`,
     -- `Another service.`.
     ⊎ ((cause : AdmitRefusal) × Admits (fields_of acceptor.terms) acceptor.service moment message random (Err cause) after.service
     × (result ≡ Err (Admit cause))))

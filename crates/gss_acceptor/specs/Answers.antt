@@ -35,9 +35,9 @@ abbrev pub octets_field : ℕ → Option Bytes → Bytes
 octets_field tag None = []
 octets_field tag (Some octets) = element tag (element octet_string_octet octets)
 
--- An answer of SPNEGO is a negTokenResp [1] with its state, and the mechanism's token and the acceptor's MIC if there are such. The first
--- answer names the mechanism as it was offered (RFC 4178, section 4.2.2). Test: `SPNEGO: either identifier`, `Kerberos first, and no
--- token`, `SPNEGO: another mechanism`.
+-- An answer of SPNEGO is a negTokenResp [1] with its state. It has the mechanism's identifier, the mechanism's token and the acceptor's
+-- MIC if there are such (RFC 4178, section 4.2.2). Test: `SPNEGO: either identifier`, `Kerberos first, and no token`, `SPNEGO: another
+-- mechanism`.
 abbrev pub neg_token_resp : NegState → Option Mechanism → Option Bytes → Option Bytes → Bytes
 neg_token_resp state supported token mic =
     element context_1_octet (element sequence_octet (state_field state ++ (supported_field supported ++ (octets_field context_2_octet token ++ octets_field context_3_octet mic))))

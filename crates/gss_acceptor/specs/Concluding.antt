@@ -35,8 +35,8 @@ waiting reply at = ContinueNeeded (record { reply = reply; negotiation = record 
 abbrev pub asking_state : Bool → NegState
 asking_state required = if required then RequestMic else AcceptIncomplete
 
--- Where Kerberos' token isn't there, the answer names Kerberos and has no token. Its state is request-mic if Kerberos isn't the first
--- mechanism, and else accept-incomplete (RFC 4178, section 4.2.2). Test: `Kerberos first, and no token`, `SPNEGO: another mechanism`.
+-- Where Kerberos' token isn't there, the answer names Kerberos and has no token. Its state is request-mic if MICs are due, and else
+-- accept-incomplete (RFC 4178, section 4.2.2). Test: `Kerberos first, and no token`, `SPNEGO: another mechanism`.
 abbrev pub asking : Mechanism → Terms → Accepted
 asking mechanism terms = waiting (neg_token_resp (asking_state terms.required) (Some mechanism) None None) (stage.Token terms)
 
@@ -45,7 +45,8 @@ abbrev pub completed : EstablishedRecord → Option Mechanism → Option Bytes �
 completed established supported mic =
     Established (record established { reply = Some (neg_token_resp AcceptCompleted supported established.reply mic) })
 
--- both sides' MICs of the list: the end takes the initiator's, and then makes its own
+-- Where the initiator's MIC of the list came, the end takes it and then makes its own (RFC 4178, section 5). Each uses up a sequence number
+-- of the context (RFC 4121, section 4.2.6.1). Test: `MICs that aren't due,`.
 pub record ExchangesMics (before after : ContextRecord) (list theirs own : Bytes) : Type 0 where
   pub between : ContextRecord
   pub takes : TakesMic before between list theirs

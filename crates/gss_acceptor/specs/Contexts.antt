@@ -43,10 +43,10 @@ first_number (Some number) = or_refused (number_of number) BadSequenceNumber
 abbrev pub fields_of : AcceptorTerms → ReplyFields
 fields_of terms = if terms.with_subkey then SubkeyAndNumber else TimeAlone
 
--- the key that the client chose
+-- Without a subkey of the acceptor, the context's key is the initiator's subkey, or else the session key (RFC 4121, section 2). Test:
+-- `A subkey of another suite`, `No subkey,`.
 abbrev pub context_key : Option EncryptionKey → EncryptionKey → Result KeyRecord AcceptRefusal
--- Without a subkey of the acceptor, the context's key is the initiator's subkey, or else the session key (RFC 4121, section 2). Its type
--- and length are a suite's. Test: `Refused after the admission.`, `A subkey of another suite`, `No subkey,`.
+-- The type and length of the key that the client chose are a suite's (RFC 3961, section 3). Test: `Refused after the admission.`.
 context_key (Some subkey) session = or_refused (key_in subkey) UnknownKey
 context_key None session = or_refused (key_in session) UnknownKey
 
@@ -72,8 +72,10 @@ sending_number true has_reply words number = reply_number words
 sending_number false true words number = 0
 sending_number false false words number = number
 
--- The acceptor's end takes each number in turn where the initiator's flag 8 asks for sequencing (RFC 4121, section 4.1.1.1). It is over by
--- the skew after the ticket's end (RFC 4120, section 3.2.3). Test: `unwrap Gap`, `check_end ContextExpired`.
+-- The acceptor's end takes each sequence number in turn where the initiator's flag 8 asks for sequencing (RFC 4121, section 4.1.1.1).
+-- Test: `unwrap Gap`.
+-- The acceptor's end of a context is over by the clock skew after the ticket's endtime (RFC 4120, section 3.2.3). Test: `check_end
+-- ContextExpired`.
 abbrev pub end_terms : AcceptorTerms → Micros → Random → AdmissionRecord → ContextFlags → ℕ → ContextTerms
 end_terms terms skew words admission flags number = record {
   acceptor_subkey = sends_subkey terms admission;

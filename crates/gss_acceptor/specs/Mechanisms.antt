@@ -28,7 +28,8 @@ kerberos_in identifier =
 abbrev pub first_kerberos : List ObjectIdentifierAsn1 → Option ObjectIdentifierAsn1
 first_kerberos identifiers = find (λ identifier. is_some (kerberos_in identifier)) identifiers
 
--- Kerberos by the first identifier in the list that denotes it; none if no identifier does
+-- SPNEGO's list has Kerberos as 1.2.840.113554.1.2.2, or as Microsoft's 1.2.840.48018.1.2.2. The first such identifier counts (RFC 4121,
+-- section 4.1; MS-SPNG, section 3.1.5.2). Test: `SPNEGO: either identifier`.
 abbrev pub kerberos_among : List ObjectIdentifierAsn1 → Option Mechanism
 kerberos_among identifiers = option_and_then kerberos_in (first_kerberos identifiers)
 

@@ -44,8 +44,7 @@ is_spnego identifier = pointwise nat_eq (oid_content identifier.0) spnego_octets
 abbrev pub mech_type_tree : ObjectIdentifierAsn1 → Tree
 mech_type_tree identifier = leaf (is_object_identifier identifier.0) object_identifier_octet (oid_content identifier.0)
 
--- MICs are over the DER encoding of the MechTypeList, with the context's next sequence numbers (RFC 4178, section 5; RFC 4121, section
--- 4.2.6.1). Test: `SPNEGO: another mechanism`, `MICs that aren't due,`.
+-- MICs are over the DER encoding of the MechTypeList (RFC 4178, section 5). Test: `SPNEGO: another mechanism`, `MICs that aren't due,`.
 abbrev pub mech_types_octets : List ObjectIdentifierAsn1 → Bytes
 mech_types_octets list = der (constructed sequence_octet (trees_of mech_type_tree list))
 
@@ -55,7 +54,8 @@ mech_types_octets list = der (constructed sequence_octet (trees_of mech_type_tre
 abbrev pub optimistic : Bool → Tokens → Tokens
 optimistic first tokens = if first then tokens else record { mechanism = None; mic = None }
 
--- MICs are due if Kerberos isn't the first mechanism
+-- MICs of the list of mechanisms are due if Kerberos isn't the first of them (RFC 4178, section 5). Test: `SPNEGO: another mechanism`,
+-- `SPNEGO: either identifier`.
 abbrev pub offer_by : Mechanism → List ObjectIdentifierAsn1 → Tokens → Offer
 offer_by mechanism list tokens = record {
   mechanism = mechanism;
@@ -65,8 +65,8 @@ offer_by mechanism list tokens = record {
 
 -- what a list of mechanisms and these tokens offer
 abbrev pub offer_among : List ObjectIdentifierAsn1 → Tokens → Result Offer AcceptRefusal
--- Kerberos is among the mechanisms that SPNEGO offers, by either identifier; the first such identifier counts (RFC 4178, section 4.2.1;
--- MS-SPNG, section 3.1.5.2). Test: `SPNEGO: either identifier`, `other mechanisms, no mechanism, another token, and octets after it.`.
+-- Kerberos is among the mechanisms that SPNEGO offers (RFC 4178, section 4.2.1). Test: `other mechanisms, no mechanism, another token, and
+-- octets after it.`.
 offer_among list tokens = option_map_or (λ mechanism. Ok (offer_by mechanism list tokens)) (kerberos_among list) (Err NoKerberos)
 
 -- the tokens of a NegTokenInit: mechToken and mechListMIC (RFC 4178, section 4.2.1)
@@ -84,8 +84,8 @@ offer_in message = if is_spnego message.oid then offer_of message.neg_token_init
 -- what a token offers
 unfoldable pub offered : Bytes → Table (Result Offer AcceptRefusal)
 offered token =
-    -- A first token of SPNEGO is the DER encoding of a NegTokenInit after SPNEGO's identifier (RFC 4178, section 4.2.1). Test: `No such
-    -- tokens.`, `other mechanisms, no mechanism, another token, and octets after it.`.
+    -- A first token of SPNEGO is the DER encoding of a NegTokenInit after SPNEGO's identifier (RFC 4178, sections 4.2 and 4.2.1). Test:
+    -- `No such tokens.`, `other mechanisms, no mechanism, another token, and octets after it.`.
     ask (IsNegInit token) (sole_neg_init token) (done (Err NotAToken)) (λ message. done (offer_in message))
 
 -- memory ran out, or this is given

@@ -10,8 +10,12 @@ use Rattle.gss_context_tokens.specs.contracts.iakerb_header.IAKerbHeaderFromDer.
 use Rattle.gss_context_tokens.specs.Fronts.{Leads}
 use Rattle.gss_context_tokens.specs.Tokens.{mechanism_tree, IsOfMechanism, IsTold, IsProxied, iakerb, proxy_id, told_content}
 
--- A first token is an element 60 with the mechanism's identifier, two octets of token id, and the message, which nothing follows in the
--- token (RFC 2743, section 3.1; RFC 4121, section 4.1). Test: `first_tokens` of `tokens.rt`, `KrbMessage<TgtRep>` of `tokens.txt`.
+-- A first token is an element 60, whose content begins with the mechanism's identifier (RFC 2743, section 3.1; RFC 4121, section 4.1).
+-- Test: `first_tokens` of `tokens.rt`.
+-- In a first token a token id of two octets follows the mechanism's identifier (RFC 4121, section 4.1). Test: `first_tokens` of
+-- `tokens.rt`.
+-- In a first token the message follows the token id, and nothing follows the message (RFC 4121, section 4.1). Test: `KrbMessage<TgtRep>`
+-- of `tokens.txt`.
 abbrev pub BeginsKrbMessage : {T : Type 0} → (T → List ℕ → Type 0) → KrbMessage T → List ℕ → Type 0
 BeginsKrbMessage reads m bytes =
     (inner message : List ℕ) × IsOfMechanism bytes m.krb5_oid inner × IsTold inner m.krb5_token_id message × reads m.krb_msg message

@@ -35,7 +35,8 @@ context_of key side terms = record {
 }
 
 -- Past its end a context is refused, if it has one (RFC 2743, section 1.2.1.1, GSS_S_CONTEXT_EXPIRED). Test: `check_end ContextExpired`,
--- `check_end ok`.
+-- `check_end ok` of `first_tokens.txt`.
+-- A context that has no end is never over. Test: `check_end ok` of `initiators.txt`.
 abbrev pub lasting : Option Micros → Micros → Result (Unit {0}) TokenRefusal
 lasting None moment = Ok tt
 lasting (Some end) moment = if nat_lt end moment then Err ContextExpired else Ok tt

@@ -44,7 +44,7 @@ judged c is_token token =
     -- OldNumber`, `verify_mic OldNumber`.
     else if nat_lt (be64_at 8 token) c.taking then Err OldNumber
     -- Where the initiator asked for sequencing, the sequence number is the next one (RFC 2743, section 1.2.3, GSS_S_GAP_TOKEN). Test:
-    -- `unwrap Gap`, `verify_mic Gap`.
+    -- `unwrap Gap`, `verify_mic Gap` of `first_tokens.txt`.
     else if is_gap c (be64_at 8 token) then Err Gap
     -- The sequence number isn't the last of 64 bits, which none follows. Test: `unwrap NumbersUsedUp`, `verify_mic NumbersUsedUp`.
     else if nat_eq (be64_at 8 token) last_number then Err NumbersUsedUp
@@ -68,8 +68,10 @@ pub record TakesMic (c new : ContextRecord) (message token : List ℕ) : Type 0 
   pub is_mic_of : IsMicOf (peer c) number message token
   pub moved : new ≡ record c { taking = number + 1 }
 
--- A MIC token is refused by its header, or else by its checksum, which is over the message and the header (RFC 4121, sections 4.2.4 and
--- 4.2.6.1). Test: `verify_mic WrongChecksum`.
+-- A MIC token is refused by its header, or else by its checksum (RFC 4121, section 4.2.6.1). Test: `Several faults: the first in the order
+-- of the refusals.`, `verify_mic WrongChecksum`.
+-- A MIC token's checksum is over the message and then the token's header, under the key and the key usage of its sender (RFC 4121, sections
+-- 2 and 4.2.4). Test: `verify_mic WrongChecksum`.
 abbrev pub IsMicRefusal : ContextRecord → List ℕ → List ℕ → TokenRefusal → Type 0
 IsMicRefusal c message token e =
     (judged c (is_mic token) token ≡ Err e)
@@ -91,7 +93,8 @@ abbrev pub protection_of : Bool → Protection
 protection_of true = Sealed
 protection_of false = Checksum
 
--- the data that follow the token's header, before they were rotated
+-- The data after a wrap token's header are rotated to the right by RRC octets, the right rotation count. Any count is undone (RFC 4121,
+-- section 4.2.5). Test: `Rotated wrap tokens.`.
 abbrev pub IsTextOf : List ℕ → List ℕ → Type 0
 IsTextOf token text = rotated_right (be16_at 6 token) text ≡ drop HEADER_LEN token
 
@@ -117,8 +120,8 @@ IsUnread s protection token text e = ⊥
 abbrev pub IsUnopened : Sender → Protection → List ℕ → TokenRefusal → Type 0
 IsUnopened s protection token e = (text : List ℕ) × IsTextOf token text × IsUnread s protection token text e
 
--- A wrap token is refused by its header, or else by its data: they don't decrypt, have another checksum, or don't end with the header (RFC
--- 4121, section 4.2.4). Test: `unwrap WrongChecksum`, `unwrap OtherHeader`.
+-- A wrap token is refused by its header, or else by its data (RFC 4121, section 4.2.6.2). Test: `Several faults: the first in the order of
+-- the refusals.`, `unwrap WrongChecksum`, `unwrap OtherHeader`.
 abbrev pub IsWrapRefusal : ContextRecord → List ℕ → TokenRefusal → Type 0
 IsWrapRefusal c token e =
     (judged c (is_wrap token) token ≡ Err e)

@@ -24,7 +24,7 @@ bindings_of application = if nat_lt (length application) 4294967296 then Some (m
 abbrev pub initial_octets : InitialChecksum → Bytes
 initial_octets initial = (le32 BINDINGS ++ initial.bindings) ++ le32 initial.flags.0
 
--- The checksum has the type 0x8003. Its octets are the length 16 of the hash of the channel bindings, the hash, and the flags; the numbers
+-- The checksum has the type 0x8003. Its octets are the length 16 of the hash of the channel bindings, the hash, and the flags. The numbers
 -- are in four octets, the lowest first (RFC 4121, section 4.1.1). Test: `initiate Established`.
 abbrev pub initial_checksum : InitialChecksum → Checksum
 initial_checksum initial = record { cksumtype = record { 0 = pos GSS_API }; checksum = record { 0 = initial_octets initial } }
@@ -39,6 +39,7 @@ is_beyond flags = is_set flags.0 DELEGATION || nat_le 64 flags.0
 abbrev pub is_mutual : ContextFlags → Bool
 is_mutual flags = is_set flags.0 MUTUAL
 
--- the initiator asks for sequencing (RFC 4121, section 4.1.1.1)
+-- The initiator's flag 8 asks for sequencing: its end then takes each number in turn (RFC 4121, section 4.1.1.1).
+-- Test: `An initiator in sequence`.
 abbrev pub is_in_sequence : ContextFlags → Bool
 is_in_sequence flags = is_set flags.0 SEQUENCE

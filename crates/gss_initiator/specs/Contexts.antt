@@ -24,8 +24,8 @@ abbrev pub or_refused : {A : Type 0} → Option A → InitiateRefusal → Result
 or_refused (Some a) refusal = Ok a
 or_refused None refusal = Err refusal
 
--- An end with this key, without an end in time. It takes each number in turn where the initiator's flag 8 asks for sequencing (RFC 4121,
--- section 4.1.1.1). Test: `An initiator in sequence`.
+-- The initiator's end of a context is under the context's key, and has no end in time. It takes each number in turn where sequencing was
+-- asked for. Test: `An initiator in sequence`, `check_end ok`.
 abbrev pub context_in : ContextKey → Bool → SequenceNumbers → Result ContextRecord InitiateRefusal
 context_in it in_sequence numbers =
     if is_newer it.key.suite then Ok (context_of it.key Initiator (record {
@@ -45,21 +45,25 @@ own_context pending =
 
 -- the acceptor's first sequence number
 abbrev pub acceptor_number : Option ℤ → Result ℕ InitiateRefusal
+-- The acceptor's first sequence number is 0 where the AP-REP has none (RFC 4120, sections 5.5.1 and 5.5.2).
+-- Test: `With an AP-REP, and at once without one.`.
 acceptor_number None = Ok 0
--- The acceptor's first sequence number has 32 bits, also where it is written as the negative number of these bits. It is 0 where the
--- AP-REP has none (RFC 4120, section 5.5.2). Test: `take BadSequenceNumber`, `take ok`.
+-- The acceptor's first sequence number (seq-number) has 32 bits, also where it is written as the negative number of these bits (RFC 4120,
+-- sections 5.5.1 and 5.5.2). Test: `take BadSequenceNumber`, `The acceptor's subkey wins,`.
 acceptor_number (Some number) = or_refused (number_of number) BadSequenceNumber
 
 -- the acceptor's key, of an AP-REP that has one
 abbrev pub acceptor_key : Option KeyRecord → Result ContextKey InitiateRefusal
+-- The acceptor's subkey is a key: its keytype is that of a known suite, and its length that suite's (RFC 4120, section 5.2.9; RFC 3961,
+-- section 3). Test: `take UnknownKey`.
 acceptor_key None = Err UnknownKey
 acceptor_key (Some key) = Ok (record { key = key; is_acceptors = true })
 
 -- the context's key
 abbrev pub context_key : KeyRecord → Option EncryptionKey → Result ContextKey InitiateRefusal
 context_key own None = Ok (record { key = own; is_acceptors = false })
--- The context's key is the acceptor's subkey where the AP-REP has one, and else the initiator's (RFC 4121, section 2). It is a key of a
--- known suite. Test: `The acceptor's subkey wins,`, `take UnknownKey`.
+-- The context's key is the acceptor's subkey where the AP-REP has one, and else the initiator's subkey (RFC 4121, section 2).
+-- Test: `The acceptor's subkey wins,`, `With an AP-REP, and at once without one.`.
 context_key own (Some subkey) = acceptor_key (key_in subkey)
 
 -- the end that the AP-REP's part makes of a pending one

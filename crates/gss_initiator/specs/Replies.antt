@@ -54,7 +54,7 @@ Part = Result EncApRepPartInner InitiateRefusal
 abbrev pub told : ApAskedRecord → EncApRepPartInner → Table Part
 told asked part =
     -- The ctime and cusec of EncAPRepPart are those of the request's authenticator: an AP-REP to another request is refused (RFC 4120,
-    -- section 3.2.5). Test: `take NotAsked`; edit `takes_answer_of_other_request.edit`.
+    -- section 3.2.5). Test: `take NotAsked`.
     refuse (not (tells asked.time part)) NotAsked
     (done (Ok part))
 
@@ -63,7 +63,7 @@ abbrev pub opened : ApAskedRecord → ApRepInner → Table Part
 opened asked reply =
     -- The AP-REP's pvno is 5, and its msg-type is KRB_AP_REP (RFC 4120, section 5.5.2). Test: `take NotAToken`.
     refuse (not (is_of_type AP_REP_MSG_TYPE reply.pvno.0 reply.msg_type.0)) NotAToken
-    -- The enc-part decrypts under the session key for key usage 12 (RFC 4120, section 3.2.5). Test: `take NotSealed`.
+    -- The enc-part decrypts under the session key for key usage 12 (RFC 4120, sections 3.2.5 and 7.5.1). Test: `take NotSealed`.
     (ask (IsApPart asked reply.enc_part.0) (sole_ap_part asked reply.enc_part.0) (done (Err NotSealed))
     (told asked))
 

@@ -26,15 +26,16 @@ use Rattle.gss_initiator.specs.declared.heard.Heard.{Heard}
 abbrev pub is_as : Bytes → Bytes → Bool
 is_as octets expected = pointwise nat_eq octets expected
 
--- A further token of the initiator is due by the states accept-incomplete (1) and request-mic (3), and none by accept-completed (0). A
--- rejection (2) is refused as one, and another state is none (RFC 4178, section 4.2.2). Test: `take NoMic`, `take Rejected`, `take
--- NotAToken`.
+-- A further token of the initiator is due by the negState accept-incomplete (1) or request-mic (3), and none by accept-completed (0) (RFC
+-- 4178, section 4.2.2). Test: `The acceptor's MIC: where the initiator's is due, it is answered.`, `take NoMic`.
 abbrev pub due_by : Bytes → Result Bool InitiateRefusal
 due_by octets =
     if is_as octets ACCEPT_COMPLETE then Ok false
     else if is_as octets ACCEPT_INCOMPLETE then Ok true
     else if is_as octets REQUEST_MIC then Ok true
+    -- An answer whose negState is reject (2) is refused as a rejection (RFC 4178, section 4.2.2). Test: `take Rejected`.
     else if is_as octets REJECT then Err Rejected
+    -- The negState is 0, 1, 2 or 3: another number is none (RFC 4178, section 4.2.2). Test: `take NotAToken`.
     else Err NotAToken
 
 -- whether a further token of the initiator is due, by the field negState

@@ -44,8 +44,8 @@ kept context reply = Ok (record { context = context; reply = reply })
 abbrev pub IsVerified : ContextRecord → Bytes → Result TakenRecord InitiateRefusal → Type 0
 IsVerified context theirs result =
     ((after : ContextRecord) × TakesMic context after list_octets theirs × (result ≡ kept after None))
-    -- The acceptor's MIC of the list is right, also where it isn't due; a wrong one ends the negotiation (RFC 4178, section 5). Test:
-    -- `take Mic`.
+    -- The acceptor's MIC of the list of mechanisms is right, also where it isn't due; a wrong one is refused (RFC 4178, section 5).
+    -- Test: `take Mic`.
     ⊎ ((cause : TokenRefusal) × IsMicRefusal context list_octets theirs cause × (result ≡ Err (Mic cause)))
 
 -- the initiator's MIC is sent in the last token, whose state is accept-completed (RFC 4178, section 5)

@@ -51,6 +51,6 @@ or_else (Ok _) next = next
 or_else (Err e) next = Err e
 
 -- A wrong TOK_ID (InvalidId) comes before a wrong filler (InvalidMicFiller, InvalidWrapFiller), and this before fewer than 16 octets
--- (RFC 4121, section 4.2.6). Test: `refusals` of `tokens.rt`, `tokens` of `failing.rt`.
+-- (RFC 4121, section 4.2.6). Test: `refusals` of `tokens.rt`.
 abbrev pub judged : TokenKind → ErrorKind → List ℕ → Verdict
 judged kind short whole = or_else (id_judged kind whole) (or_else (filler_judged kind whole) (length_judged short whole))

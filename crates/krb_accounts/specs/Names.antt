@@ -4,7 +4,8 @@ use Rattle.std.specs.List.{list_all}
 use Rattle.std.specs.Global.{Global}
 use Rattle.picky_asn1.specs.Bytes.{Bytes}
 
--- A realm's name has 1 to 255 characters, each below 128. Test: `realm is empty`, `realm has 256 characters`, `realm c4` of `realms.txt`.
+-- A realm's name has 1 to 255 characters, each below 128. Test: `realm is empty`, `realm has 256 characters`, `realm has a
+-- character that is not ASCII at 3` of `files.txt`.
 abbrev pub is_realm_name : Bytes → Bool
 is_realm_name name = nat_le 1 (length name) && nat_le (length name) 255 && list_all (λ character. nat_lt character 128) name
 

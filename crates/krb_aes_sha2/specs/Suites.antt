@@ -14,8 +14,8 @@ use Rattle.krb_aes_sha2.specs.Derivation.{hmac_sha2_of, sha2_derived_key_of, sha
 abbrev pub sha2_tag_of : AesSize → List ℕ → List ℕ → List ℕ
 sha2_tag_of size key text = take (tag_size_of size) (hmac_sha2_of size key text)
 
--- Decryption refuses fewer bytes than a confounder and a checksum (CipherLength), then another length of the key (KeyLength), then
--- the checksum (IntegrityCheck). Test: `too_short` of `aes_sha2.rt`.
+-- Decryption by AES with SHA-2 refuses fewer bytes than a confounder and a checksum (CipherLength), then another length of the key
+-- (KeyLength), then the checksum (IntegrityCheck). Test: `too_short` of `aes_sha2.rt`.
 abbrev pub IsSha2Refusal : ℕ → ℕ → ℕ → ℕ → KerberosCryptoError → Type 0
 IsSha2Refusal = IsRefusalInOrder
 
@@ -23,8 +23,8 @@ IsSha2Refusal = IsRefusalInOrder
 abbrev pub least_of : AesSize → ℕ
 least_of size = 16 + tag_size_of size
 
--- Encryption is ciphertext stealing, with the checksum over the initial vector of zeros and the ciphertext (RFC 8009, section 5). Ke has as
--- many octets as the key, 16 or 32. Test: `seal 19`, `seal 20`, `derive 19`, `derive 20`; `tag_over_plaintext`.
+-- Encryption by AES with SHA-2 is ciphertext stealing. The checksum is over the initial vector of zeros and the ciphertext (RFC 8009,
+-- section 5). Ke has as many octets as the key, 16 or 32. Test: `seal 19`, `seal 20`, `derive 19`, `derive 20`.
 abbrev pub aes_sha2_profile : AesSize → Profile
 aes_sha2_profile size = record {
   key_size = key_length_of size;

@@ -54,18 +54,19 @@ kvno_fits kvno encrypted = option_map_or (λ tagged. is_number kvno tagged.0) en
 
 -- the request's own fields: version 5, an AP request, for the service of this realm and this name under its key of this
 -- kvno
+-- Ignored: the name type of the ticket's sname; names are compared by their components (RFC 4120, section 6.2). Test: `name type`.
 abbrev pub ap_fields : Bytes → List Bytes → ℕ → ApReqInner → Table (Result (Unit {0}) Code)
 ap_fields realm name kvno request =
-    -- The request's pvno and the ticket's tkt-vno are 5 (RFC 4120, section 3.2.3). Test: `ticket version`; `tgs AP-REQ pvno`,
+    -- The request's pvno and the ticket's tkt-vno are 5 (RFC 4120, sections 5.3 and 5.5.1). Test: `tgs AP-REQ pvno`,
     -- `tgs ticket version` of `kdc_exchanges.txt`.
     refuse (not (is_version_5 request)) KRB_AP_ERR_BADVERSION
     -- The msg-type is KRB_AP_REQ (RFC 4120, section 3.2.3). Test: `tgs AP-REQ type` of `kdc_exchanges.txt`.
     (refuse (not (is_number AP_REQ_MSG_TYPE request.msg_type.0)) KRB_AP_ERR_MSG_TYPE
-    -- The ticket is for this service of this realm; the name type is ignored (RFC 4120, section 3.2.3). Test: `name`, `name type`;
-    -- `tgs ticket realm`, `tgs ticket name` of `kdc_exchanges.txt`.
+    -- The ticket's realm and sname are those of this service (RFC 4120, section 3.2.3). Test: `tgs ticket realm`, `tgs ticket name` of
+    -- `kdc_exchanges.txt`.
     (refuse (not (is_for realm name (ticket_in request))) KRB_AP_ERR_NOT_US
-    -- The ticket's kvno is that of the service's key, or is missing (RFC 4120, section 3.2.3). Test: `no key number`; `Krb(44)` of
-    -- `logins.txt`; `tgs key number`, `tgs no key number` of `kdc_exchanges.txt`.
+    -- The ticket's kvno is that of the service's key, or is missing (RFC 4120, section 3.2.3). Test: `tgs key number`,
+    -- `tgs no key number` of `kdc_exchanges.txt`.
     (refuse (not (kvno_fits kvno (enc_part_in request))) KRB_AP_ERR_BADKEYVER
     (done (Ok tt)))))
 
@@ -95,9 +96,9 @@ is_late skew moment part = is_before skew (seconds_of part.endtime.0.0 * 1000000
 -- the ticket has started, has not ended, and isn't invalid at this moment
 abbrev pub timely : Micros → Micros → EncTicketPartInner → Table (Result (Unit {0}) Code)
 timely skew moment part =
-    -- The ticket's starttime, or else its authtime, is at most the skew after now, and its flag invalid isn't set (RFC 4120, section
-    -- 3.2.3). Test: `start past skew`, `invalid flag`; `tgs ticket authtime in place of start`, `tgs ticket invalid flag` of
-    -- `kdc_exchanges.txt`.
+    -- The ticket's starttime, or else its authtime, is at most the skew after now (RFC 4120, section 3.2.3). Test:
+    -- `tgs ticket end and start`, `tgs ticket authtime in place of start` of `kdc_exchanges.txt`.
+    -- The ticket's flag invalid isn't set (RFC 4120, section 3.2.3). Test: `invalid flag`.
     refuse (is_early skew moment part) KRB_AP_ERR_TKT_NYV
     -- Now is at most the skew after the ticket's endtime (RFC 4120, section 3.2.3). Test: `end past skew`.
     (refuse (is_late skew moment part) KRB_AP_ERR_TKT_EXPIRED
@@ -106,8 +107,8 @@ timely skew moment part =
 -- the part that the service's key opens
 abbrev pub opened_part : CipherSuite → Bytes → EncryptedData → Table (Result EncTicketPartInner Code)
 opened_part suite key encrypted =
-    -- The ticket's enc-part decrypts under the service's key, for key usage 2 (RFC 4120, section 3.2.3). Test: `wrong usage`,
-    -- `ticket part cut`; `tgs ticket wrong key`, `tgs ticket etype` of `kdc_exchanges.txt`.
+    -- The ticket's enc-part decrypts under the service's key, to an EncTicketPart (RFC 4120, section 3.2.3). Test:
+    -- `tgs ticket wrong key`, `tgs ticket etype`, `tgs ticket part and bytes` of `kdc_exchanges.txt`.
     ask (IsTicketPart suite key encrypted) (sole_ticket_part suite key encrypted) (done (Err KRB_AP_ERR_BAD_INTEGRITY)) (λ part.
     done (Ok part))
 
@@ -124,26 +125,29 @@ is_of_client part authenticator =
     is_same_realm authenticator.crealm.0 part.crealm.0 && is_same_name (components authenticator.cname.0) (components part.cname.0)
 
 -- the suite of the ticket's key, and the authenticator that this key opens for the usage
+-- Not judged: the kvno of the authenticator's encryption (RFC 4120, section 5.2.9). No test: the contract alone covers it.
 abbrev pub opened : EncryptionKey → ℕ → EncryptedData → Table (Result (CipherSuite × AuthenticatorInner) Code)
 opened key usage encrypted =
-    -- The session key's type and length are a suite's (RFC 3961, section 3). Test: `key length`; `tgs ticket key type`,
-    -- `tgs ticket key length` of `kdc_exchanges.txt`.
+    -- The session key's type and length are a suite's (RFC 3961, section 3). Test: `tgs ticket key type`, `tgs ticket key length` of
+    -- `kdc_exchanges.txt`.
     need (suite_of key) KRB_AP_ERR_BAD_INTEGRITY (λ suite.
-    -- The authenticator decrypts under the session key, for key usage 11, or 7 in a TGS request (RFC 4120, sections 3.2.3 and 5.5.1).
-    -- Test: `authenticator wrong key`; `tgs authenticator wrong usage` of `kdc_exchanges.txt`.
+    -- The authenticator decrypts under the session key, to an Authenticator (RFC 4120, sections 3.2.3 and 5.5.1). Test:
+    -- `authenticator wrong key`, `authenticator 00 behind`.
     ask (IsAuthenticator suite key.key_value.0 usage encrypted) (sole_authenticator suite key.key_value.0 usage encrypted) (done (Err KRB_AP_ERR_BAD_INTEGRITY)) (λ authenticator.
     done (Ok (suite, authenticator))))
 
 -- the moment of an authenticator of the ticket's client: its ctime and cusec
+-- Ignored: the name type of the authenticator's cname; names are compared by their components (RFC 4120, section 6.2). Test:
+-- `tgs authenticator client type` of `kdc_exchanges.txt`.
 abbrev pub authenticator_time : EncTicketPartInner → AuthenticatorInner → Table (Result Micros Code)
 authenticator_time part authenticator =
     -- The authenticator-vno is 5 (RFC 4120, section 5.5.1). Test: `tgs authenticator version` of `kdc_exchanges.txt`.
     refuse (not (is_number KERBEROS_VERSION authenticator.authenticator_vno.0)) KRB_AP_ERR_BADVERSION
-    -- The authenticator's crealm and cname are the ticket's (RFC 4120, section 3.2.3). Test: `authenticator realm`;
-    -- `tgs authenticator realm`, `tgs authenticator client` of `kdc_exchanges.txt`.
+    -- The authenticator's crealm and cname are the ticket's (RFC 4120, section 3.2.3). Test: `tgs authenticator realm`,
+    -- `tgs authenticator client` of `kdc_exchanges.txt`.
     (refuse (not (is_of_client part authenticator)) KRB_AP_ERR_BADMATCH
-    -- The authenticator's cusec is from 0 to 999,999 (RFC 4120, section 5.2.4). Test: `microseconds -1`; `tgs authenticator microseconds`
-    -- of `kdc_exchanges.txt`.
+    -- The authenticator's cusec isn't negative (RFC 4120, section 5.2.4). Test: `microseconds -1`.
+    -- The authenticator's cusec is at most 999,999 (RFC 4120, section 5.2.4). Test: `tgs authenticator microseconds` of `five_suites.txt`.
     (need (moment_at (seconds_of authenticator.ctime.0.0) authenticator.cusec.0) KRB_AP_ERR_MODIFIED (λ time.
     done (Ok time))))
 
@@ -162,12 +166,15 @@ presented_with request part a = record {
   suite = a.suite;
   authenticator = a.authenticator;
   time = a.time;
+  -- The option mutual-required asks for an AP-REP (RFC 4120, section 3.2.4). Test: `honest, mutual`, `honest, options of no bits`.
   wants_reply = bit_of request.ap_options.0 MUTUAL_REQUIRED;
 }
 
 -- what the request presents whose ticket has this part
 abbrev pub valid_authenticator : ApReqInner → EncTicketPartInner → Table (Result Presented Code)
 valid_authenticator request part =
+    -- The authenticator of a request to a service is encrypted for key usage 11 (RFC 4120, sections 5.5.1 and 7.5.1). Test:
+    -- `authenticator for key usage 7` of `keytab_rows.txt`.
     and_then (authenticated (cast_unsigned w32 AP_REQ_AUTHENTICATOR) part request.authenticator.0) (λ a.
     done (Ok (presented_with request part a)))
 

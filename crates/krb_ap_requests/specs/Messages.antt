@@ -11,7 +11,8 @@ use Rattle.decision_tables.specs.One.{IsSole}
 use Rattle.krb_encrypted_data.specs.Sealed.{IsSealedIn, sole_sealed}
 use Rattle.krb_messages.specs.Messages.{authenticator-injective, authenticator_tree, enc_ticket_part-injective, enc_ticket_part_tree}
 
--- the data is the ticket's part, encrypted under the service's key (RFC 4120, section 7.5.1)
+-- The ticket's enc-part is encrypted under the service's key, for key usage 2 (RFC 4120, sections 5.3 and 7.5.1). Test: `wrong usage` of
+-- `admissions.txt`.
 abbrev pub IsTicketPart : CipherSuite → Bytes → EncryptedData → EncTicketPartInner → Type 0
 IsTicketPart suite key encrypted part = IsSealedIn {T = EncTicketPartInner} enc_ticket_part_tree suite key (cast_unsigned w32 TICKET_REP) encrypted part
 

@@ -48,15 +48,19 @@ possible call suite body =
     (done (Ok span))))
 
 -- the client proves by an encrypted timestamp that it has its key
+-- Ignored: of several padata PA-ENC-TIMESTAMP, all but the first (RFC 4120, section 5.2.7). Test: `as padata twice, first good`,
+-- `as padata twice, first bad`.
+-- Not judged: the kvno of the encrypted timestamp (RFC 4120, section 5.2.9). Test: `as rtime, addresses` of `kdc_exchanges.txt`.
+-- Not judged: whether `pausec` is there. A missing one counts as 0 (RFC 4120, section 5.2.7.2). Test: `as client krbtgt` of
+-- `five_suites.txt`.
 abbrev pub timestamped : CallRecord → AccountRecord → List PaData → Table (Result (Unit {0}) Code)
 timestamped call client padata =
-    -- Padata PA-ENC-TIMESTAMP is there; of several the first counts (RFC 4120, section 5.2.7.2). Test: `as no preauthentication`,
-    -- `as no padata`, `as padata twice, first bad`.
+    -- Padata PA-ENC-TIMESTAMP is there (RFC 4120, section 5.2.7.2). Test: `as no preauthentication`, `as no padata`.
     need (first_of PA_ENC_TIMESTAMP padata) KDC_ERR_PREAUTH_REQUIRED (λ value.
-    -- The encrypted timestamp decrypts under the client's key, for key usage 1, to one PA-ENC-TS-ENC; its kvno isn't compared (RFC 4120,
-    -- section 5.2.7.2). Test: `as PA-ENC-TIMESTAMP wrong key`, `as PA-ENC-TIMESTAMP wrong usage`.
+    -- The encrypted timestamp decrypts under the client's key, for key usage 1, to one PA-ENC-TS-ENC (RFC 4120, section 5.2.7.2).
+    -- Test: `as PA-ENC-TIMESTAMP wrong key`, `as PA-ENC-TIMESTAMP wrong usage`.
     ask (IsEncryptedTimestamp client value) (sole_encrypted_timestamp client value) (done (Err KDC_ERR_PREAUTH_FAILED)) (λ timestamp.
-    -- `pausec` is from 0 to 999,999; a missing one is 0 (RFC 4120, section 5.2.4). Test: `as microseconds`.
+    -- `pausec` is from 0 to 999,999 (RFC 4120, section 5.2.4). Test: `as microseconds`.
     need (moment_of timestamp) KDC_ERR_PREAUTH_FAILED (λ time.
     -- Clock skew: `patimestamp` and `pausec` differ from now by the skew at most (RFC 4120, section 5.2.7.2). Test: `as skew edges`,
     -- `as skew far`.
@@ -70,14 +74,17 @@ authenticated_by call rows client name request None =
     done (Ok (as_reply_key client)))
 authenticated_by call rows client name request (Some padata) =
     and_then (rows.judges (pkinit_call call name (body_of request)) padata) (λ agreed.
+    -- By certificate the reply key is made of the agreed secret alone, without clientDHNonce and serverDHNonce (RFC 4556, section
+    -- 3.2.3.1). Test: `granted a suite 18`, `granted, client nonce` of `pkinit_exchanges.txt`.
     done (Ok (agreed_reply_key client.suite (agreed_key client.suite agreed.secret) agreed.reply)))
 
 -- the reply key, as the first padata PA-PK-AS-REQ gives it, and else the encrypted timestamp
 abbrev pub authenticated : CallRecord → PkinitRows → AccountRecord → List Bytes → KdcReq → Table (Result ReplyKeyRecord Code)
 authenticated call rows client name request =
-    -- Padata PA-PK-AS-REQ wins over PA-ENC-TIMESTAMP; of several the first counts (RFC 4556, section 3.2.2). Test:
-    -- `as PA-PK-AS-REQ alone`, `as PA-PK-AS-REQ and PA-ENC-TIMESTAMP`; `granted, second PA-PK-AS-REQ unreadable` of
-    -- `pkinit_exchanges.txt`.
+    -- Padata PA-PK-AS-REQ wins over PA-ENC-TIMESTAMP (RFC 4556, section 3.2.2). Test: `as PA-PK-AS-REQ and PA-ENC-TIMESTAMP`,
+    -- `as PA-PK-AS-REQ and bad PA-ENC-TIMESTAMP`.
+    -- Ignored: of several padata PA-PK-AS-REQ, all but the first (RFC 4120, section 5.2.7). Test:
+    -- `granted, second PA-PK-AS-REQ unreadable` of `pkinit_exchanges.txt`.
     authenticated_by call rows client name request (first_of PA_PK_AS_REQ (padata_in request))
 
 -- the whole table, for the accounts of client and service if they have one
@@ -85,6 +92,7 @@ authenticated call rows client name request =
 -- section 3.1.3). Test: `as rtime, addresses`, `as sealed authorization data`, `as additional tickets`, `as nonce`.
 -- Ignored: the name type of `cname` and of `sname`; names are compared by their components (RFC 4120, section 6.2). Test:
 -- `as client type`, `as service type`.
+-- Ignored: padata of other types (RFC 4120, section 3.1.3). Test: `as padata among others`.
 abbrev pub as_table : CallRecord → PkinitRows → Option AccountRecord → Option AccountRecord → KdcReq → Table (Result Bytes Code)
 as_table call rows of_client of_service request =
     and_then (header_rows AS_REQ_MSG_TYPE call.realm request) (λ _.
@@ -98,7 +106,8 @@ as_table call rows of_client of_service request =
     need of_service KDC_ERR_S_PRINCIPAL_UNKNOWN (λ service.
     and_then (possible call client.suite (body_of request)) (λ span.
     and_then (authenticated call rows client (components client_name) request) (λ under.
-    -- The ticket has the flags initial and pre-authent, a session key of the client's suite, no renew-till, no caddr, and no realm
-    -- transited (RFC 4120, section 3.1.3). Test: `as honest`.
+    -- The ticket has the flags initial and pre-authent, and a session key of the client's suite (RFC 4120, sections 2.1 and 3.1.3).
+    -- Test: `as honest` of `kdc_exchanges.txt`.
+    -- The ticket has no renew-till and no caddr, and no realm is transited (RFC 4120, section 5.3). Test: `as honest`.
     granted call (record { client_name = client_name; client = client; service_name = service_name; service = service })
     under span (body_of request))))))))

@@ -39,8 +39,8 @@ Shown = Result (Unit {0}) TakeRefusal
 -- Not judged: a subkey and a seq-number of the AP-REP (RFC 4120, section 5.5.2). No test: the contract alone covers it.
 abbrev pub takes_time : ApAskedRecord → EncApRepPartInner → Table Shown
 takes_time asked part =
-    -- The ctime and cusec of EncAPRepPart are the authenticator's (RFC 4120, section 3.2.5). Test: `take_ap_reply` of `clients.txt`;
-    -- `take NotAsked` of `initiators.txt`.
+    -- The ctime and cusec of EncAPRepPart are the authenticator's (RFC 4120, section 3.2.5). Test: `take_ap_reply ctime`,
+    -- `take_ap_reply cusec` of `changed_replies.txt`.
     refuse (not (tells asked.time part)) NotAsked
     (done (Ok tt))
 
@@ -50,8 +50,8 @@ takes_answer asked reply =
     -- The reply's pvno is 5, and its msg-type is KRB_AP_REP (RFC 4120, section 5.5.2). Test: `take_ap_reply pvno`, `take_ap_reply msg-type`
     -- of `changed_replies.txt`.
     refuse (not (is_of_type AP_REP_MSG_TYPE reply.pvno.0 reply.msg_type.0)) Unreadable
-    -- The enc-part decrypts under the session key for key usage 12 (RFC 4120, section 3.2.5). Test: `take_ap_reply` of `clients.txt`;
-    -- `take NotSealed` of `initiators.txt`.
+    -- The enc-part of an AP-REP decrypts under the session key for key usage 12 (RFC 4120, sections 3.2.5 and 5.5.2). Test:
+    -- `take_ap_reply key usage` of `changed_replies.txt`.
     (ask (IsApPart asked reply.enc_part.0) (sole_ap_part asked reply.enc_part.0) (done (Err NotSealed))
     (takes_time asked))
 

@@ -28,13 +28,16 @@ unfolding IsAsPart
 sole_as_part suite key sealed = sole_sealed enc_as_rep_part_tree enc_as_rep_part-injective suite key (cast_unsigned w32 AS_REP_ENC) sealed
 
 -- what the client takes of a reply with its key: the part may have the tag of TGS replies too (RFC 4120, section 5.4.2)
+-- Not judged: the kvno of the reply's enc-part (RFC 4120, section 5.2.9). Test: `take_as_reply key number` of `clients.txt`.
 abbrev pub takes_sealed : ClientRecord → KeyRecord → AsAskedRecord → KdcRep → Table Taken
 takes_sealed client key asked reply =
-    -- The enc-part decrypts under the reply key for key usage 3, to an EncASRepPart or an EncTGSRepPart; its kvno isn't compared (RFC 4120,
-    -- sections 3.1.5, 5.4.2). Test: `exchange_tag` of `logins.txt`; `take_as_reply key number`, `00 behind` of `clients.txt`;
-    -- `e@R, usage 8`, `a@R, sealed under the account's key` of `pkinit_steps.txt`.
+    -- The enc-part decrypts under the reply key for key usage 3 (RFC 4120, sections 3.1.5, 5.4.2). Test: `e@R, usage 8`,
+    -- `a@R, sealed under the account's key` of `pkinit_steps.txt`.
+    -- Behind the part's encoding stands nothing but the padding of triple DES (RFC 4120, section 5.4.2; RFC 3961, section 6.3). Test:
+    -- `take_as_reply 00 behind` of `clients.txt`.
     ask (IsAsPart key.suite key.bytes reply.enc_part.0) (sole_as_part key.suite key.bytes reply.enc_part.0)
-    -- Where it is no EncASRepPart it may be an EncTGSRepPart (RFC 4120, section 5.4.2). Test: `exchange_tag` of `logins.txt`.
+    -- The decrypted part is an EncASRepPart, or where it is none an EncTGSRepPart (RFC 4120, section 5.4.2). Test: `exchange_tag` of
+    -- `logins.txt`.
     (ask (IsTgsPart key.suite key.bytes (cast_unsigned w32 AS_REP_ENC) reply.enc_part.0) (sole_tgs_part key.suite key.bytes (cast_unsigned w32 AS_REP_ENC) reply.enc_part.0) (done (Err NotSealed)) (takes_part client asked.service asked.nonce reply))
     (takes_part client asked.service asked.nonce reply)
 

@@ -22,6 +22,8 @@ use Rattle.krb_client.specs.declared.refusal.TakeRefusal.{TakeRefusal}
 use Rattle.krb_client.specs.declared.refusal.TakeRefusal.TheVariants.{NotAsked, Refused, Unreadable}
 
 -- the bytes as they come: they are an error, or a reply, which the following cases read
+-- Not judged: the pvno and msg-type of a KRB-ERROR (RFC 4120, section 5.9.1). Test: `take_as_reply KRB-ERROR pvno`,
+-- `take_as_reply KRB-ERROR msg-type` of `changed_replies.txt`.
 abbrev pub takes_message : {A T : Type 0} (bytes : Bytes) (IsReply : A → Type 0) → IsSole IsReply → (A → Table (Result T TakeRefusal)) → Table (Result T TakeRefusal)
 takes_message bytes IsReply sole rest =
     -- The bytes are the DER encoding of one KRB-ERROR, AS-REP, TGS-REP or AP-REP (RFC 4120, sections 5.4.2, 5.5.2, 5.9.1). Test:
@@ -30,8 +32,7 @@ takes_message bytes IsReply sole rest =
     -- A reply is of the type that the client asked for (RFC 4120, sections 3.1.5, 3.2.5, 3.3.4). Test: `e@R, first byte 6D` of
     -- `pkinit_steps.txt`.
     (ask IsReply sole (done (Err Unreadable)) rest)
-    -- A KRB-ERROR is refused with its error-code; its pvno and msg-type aren't judged (RFC 4120, section 3.1.6). Test:
-    -- `take_as_reply KRB-ERROR` of `clients.txt`.
+    -- A KRB-ERROR is refused with its error-code (RFC 4120, section 3.1.6). Test: `take_as_reply KRB-ERROR` of `clients.txt`.
     (λ code. done (Err (Refused code)))
 
 -- the message says that it is of version 5, and of this type (RFC 4120, section 5.10)
@@ -71,11 +72,15 @@ credential_of reply part suite = record {
 -- what the client takes of the decrypted part: it answers what the client asked for this service, with the nonce
 -- Not judged: the reply's times, flags and addresses, and the ticket's own fields (RFC 4120, sections 3.1.5, 3.3.4). No test: the
 -- contract alone covers it.
+-- Ignored: the name types of the reply's cname and of the part's sname (RFC 4120, section 6.2). Test: `a@R, cname type`,
+-- `a@R, sname type` of `pkinit_steps.txt`.
 abbrev pub takes_part : ClientRecord → List Bytes → ℕ → KdcRep → EncKdcRepPart → Table Taken
 takes_part client service nonce reply part =
-    -- The part's nonce is the request's; crealm and cname are the client's; srealm and sname are those that it asked for; the name type
-    -- is ignored (RFC 4120, sections 3.1.5, 3.3.4). Test: `take_as_reply other nonce` of `logins.txt`; `take_as_reply service`,
-    -- `client type` of `clients.txt`.
+    -- The part's nonce is the request's (RFC 4120, sections 3.1.5, 3.3.4). Test: `take_as_reply other nonce` of `logins.txt`.
+    -- The reply's crealm and cname are the client's (RFC 4120, sections 3.1.5, 3.3.4). Test: `a@R loose, crealm`, `a@R loose, cname` of
+    -- `pkinit_steps.txt`.
+    -- The part's srealm is the client's realm, and its sname is the service that the client asked for (RFC 4120, sections 3.1.5, 3.3.4).
+    -- Test: `e@R, srealm`, `e@R, sname` of `pkinit_steps.txt`.
     refuse (not (is_answer client.realm client.components service nonce reply part)) NotAsked
     -- The session key's type and length are a suite's (RFC 3961, section 3). Test: `take_tgs_reply key type`,
     -- `take_tgs_reply key length` of `changed_replies.txt`.

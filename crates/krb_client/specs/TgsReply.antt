@@ -18,8 +18,8 @@ takes_further client asked reply =
     -- The reply's pvno is 5, and its msg-type is KRB_TGS_REP (RFC 4120, section 5.4.2). Test: `take_tgs_reply pvno`,
     -- `take_tgs_reply msg-type` of `changed_replies.txt`.
     refuse (not (is_of_type TGS_REP_MSG_TYPE reply.pvno.0 reply.msg_type.0)) Unreadable
-    -- The enc-part decrypts under the session key for key usage 8, to an EncTGSRepPart (RFC 4120, section 3.3.4). Test: `take_tgs_reply` of
-    -- `clients.txt`.
+    -- The enc-part decrypts under the session key for key usage 8, to an EncTGSRepPart (RFC 4120, sections 3.3.4, 5.4.2). Test:
+    -- `take_tgs_reply key usage` of `changed_replies.txt`.
     (ask (IsTgsPart asked.suite asked.key (cast_unsigned w32 TGS_REP_ENC_SESSION_KEY) reply.enc_part.0) (sole_tgs_part asked.suite asked.key (cast_unsigned w32 TGS_REP_ENC_SESSION_KEY) reply.enc_part.0) (done (Err NotSealed))
     (takes_part client asked.service asked.nonce reply))
 

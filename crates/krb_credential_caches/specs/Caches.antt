@@ -118,7 +118,8 @@ pub record IsCredentialCache (c : Cache) (whole : List ℕ) : Type 0 where
   pub bytes : whole ≡ cache_bytes c
   pub fits : IsWritable c
 
--- The version is 0x0504. Any other is refused by its number. Test: `versions and ends` of `caches.txt`.
+-- The version of a credential cache is 0x0504 (MIT's file credential cache format). Any other is refused by its number. Test:
+-- `versions and ends` of `caches.txt`.
 abbrev pub version_at : List ℕ → Result (Unit {0}) CacheFault
 version_at whole =
     if nat_lt (length whole) 2 then Err (PastEnd 0)

@@ -37,8 +37,9 @@ cipher_profile suite = family_profile (cipher_family suite)
 abbrev pub cipher_suites : List CipherSuite
 cipher_suites = Aes128CtsHmacSha196 ∷ Aes256CtsHmacSha196 ∷ Des3CbcSha1Kd ∷ Aes128CtsHmacSha256128 ∷ Aes256CtsHmacSha384192 ∷ []
 
--- The etypes are 17 and 18 (AES), 19 and 20 (AES with SHA-2) and 16 (triple DES) (RFC 3962, section 7; RFC 3961, section 8; RFC 8009,
--- section 7). Test: `seal 17` of `standards.txt`, `numbers` of `suites.rt`, `numbers` of `aes_sha2.rt`, `numbers` of `des.rt`.
+-- The etypes of AES are 17 and 18 (RFC 3962, section 7). Test: `seal 17`, `seal 18` of `sealing_aes.txt`.
+-- The etypes of AES with SHA-2 are 19 and 20 (RFC 8009, section 7). Test: `numbers` of `aes_sha2.rt`.
+-- The etype of triple DES is 16 (RFC 3961, section 8). Test: `numbers` of `des.rt`.
 abbrev pub cipher_number : CipherSuite → ℕ
 cipher_number Aes128CtsHmacSha196 = AES128_CTS_HMAC_SHA1_96
 cipher_number Aes256CtsHmacSha196 = AES256_CTS_HMAC_SHA1_96
@@ -78,8 +79,9 @@ checksum_cipher HmacSha384192Aes256 = Aes256CtsHmacSha384192
 abbrev pub checksum_suites : List ChecksumSuite
 checksum_suites = HmacSha196Aes128 ∷ HmacSha196Aes256 ∷ HmacSha1Des3Kd ∷ HmacSha256128Aes128 ∷ HmacSha384192Aes256 ∷ []
 
--- The cksumtypes are 15 and 16 (AES), 19 and 20 (AES with SHA-2) and 12 (triple DES) (RFC 3962, section 7; RFC 3961, section 8; RFC
--- 8009, section 7). Test: `numbers` of `suites.rt`, `numbers` of `aes_sha2.rt`, `numbers` of `des.rt`.
+-- The cksumtypes of AES are 15 and 16 (RFC 3962, section 7). Test: `numbers` of `suites.rt`.
+-- The cksumtypes of AES with SHA-2 are 19 and 20 (RFC 8009, section 7). Test: `numbers` of `aes_sha2.rt`.
+-- The cksumtype of triple DES is 12 (RFC 3961, section 8). Test: `numbers` of `des.rt`.
 abbrev pub checksum_number : ChecksumSuite → ℕ
 checksum_number HmacSha196Aes128 = HMAC_SHA1_96_AES128
 checksum_number HmacSha196Aes256 = HMAC_SHA1_96_AES256

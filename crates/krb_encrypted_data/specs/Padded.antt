@@ -7,9 +7,9 @@ use Rattle.krb_crypto.specs.Sealing.{cipher_padded}
 use Rattle.krb_crypto.specs.declared.suite.CipherSuite.{CipherSuite}
 use Rattle.picky_asn1.specs.Bytes.{Bytes}
 
--- What triple DES decrypts still has its padding: a value's encoding and fewer than eight zeros up to whole blocks (RFC 3961, section 6.3).
--- What AES decrypts is the encoding alone. Test: `tgs 3DES authenticator and 8 zeros`, `tgs authenticator and zeros` of
--- `kdc_exchanges.txt`; `opened` of `des.rt`.
+-- What triple DES decrypts still has its padding: a value's encoding and fewer than eight zeros up to whole blocks (RFC 3961,
+-- sections 5.3 and 6.3). What AES decrypts is the encoding alone. Test: `tgs 3DES authenticator and 8 zeros`,
+-- `tgs authenticator and zeros` of `kdc_exchanges.txt`.
 abbrev pub IsPaddedBy : {T : Type 0} → (T → Tree) → CipherSuite → Bytes → T → Type 0
 IsPaddedBy tree suite text value = (encoding : Bytes) × Writes tree value encoding × (cipher_padded suite encoding ≡ text)
 

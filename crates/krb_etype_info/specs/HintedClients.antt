@@ -14,7 +14,7 @@ use Rattle.krb_etype_info.specs.declared.refusal.HintedClientRefusal.{HintedClie
 use Rattle.krb_etype_info.specs.declared.refusal.HintedClientRefusal.TheVariants.{BadName, NoKey}
 
 -- The salt is the KDC's, or where it names none the realm followed by the components (RFC 4120, section 5.2.7.5). Test: `mit no salt`,
--- `mit aes256` of `hints.txt`.
+-- `mit norealm` of `hints.txt`.
 abbrev pub salt_by : KeyHint → Bytes → List Bytes → Bytes
 salt_by hint realm components = option_map_or (λ salt. salt) hint.salt (password_salt realm components)
 

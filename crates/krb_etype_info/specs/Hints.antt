@@ -48,8 +48,8 @@ hint_of_entries suites entries =
     need (first_entry suites entries) NoSuite (λ entry.
     -- The suite is the one of the entry's etype (RFC 4120, section 5.2.7.5). Test: `mit aes256`, `heimdal aes256` of `hints.txt`.
     need (suite_among suites entry.etype.0) NoSuite (λ suite.
-    -- The entry's s2kparams, if any, are the suite's own: the iteration count, big-endian in four octets, or of triple DES nothing (RFC 3962,
-    -- section 4; RFC 8009, section 4; RFC 3961, section 6.3). Test: `own parameters aes256`, `own parameters aes256 sha2`,
+    -- The entry's s2kparams, if any, are the suite's own: the iteration count, big-endian in four octets, or of triple DES nothing (RFC
+    -- 3962, section 4; RFC 8009, section 4; RFC 3961, section 6.3). Test: `own parameters aes256`, `own parameters aes256 sha2`,
     -- `own parameters des3`, `other rounds`, `other rounds of SHA-2`, `rounds of triple DES` of `hints.txt`.
     refuse (not (has_own_parameters suite entry)) OtherParameters
     (done (Ok (hint_by suite entry)))))
@@ -62,7 +62,7 @@ hint_of_info suites info =
 
 -- What METHOD-DATA says of a key of one of the suites.
 -- Ignored: padata of other types, as PA-ETYPE-INFO, PA-PW-SALT and PA-FX-COOKIE (RFC 4120, sections 3.1.3, 5.2.7.3, 5.2.7.4; RFC 6113,
--- section 5.2). Test: `mit aes256`, `heimdal aes256` of `hints.txt`.
+-- section 5.2). Test: `older info`, `mit aes256`, `heimdal aes256` of `hints.txt`.
 abbrev pub hint_of_methods : List CipherSuite → List PaData → Table Hinted
 hint_of_methods suites methods =
     -- METHOD-DATA has PA-ETYPE-INFO2, of which the first counts (RFC 4120, section 5.2.7.5). Test: `no info`, `damaged info first` of
@@ -109,7 +109,8 @@ hint_of_reply suites reply =
     -- The reply's pvno is 5, and its msg-type is KRB_AS_REP (RFC 4120, section 5.4.2). Test: `reply, other pvno`,
     -- `reply, other msg-type` of `hints.txt`.
     refuse (not (is_of_type AS_REP_MSG_TYPE reply.pvno.0 reply.msg_type.0)) Unreadable
-    -- The enc-part's etype is that of a suite which the client takes (RFC 4120, section 3.1.5). Test: `reply of another suite` of `hints.txt`.
+    -- The enc-part's etype is that of a suite which the client takes (RFC 4120, section 3.1.5). Test:
+    -- `reply of another suite` of `hints.txt`.
     (need (suite_among suites reply.enc_part.0.etype.0) NoSuite (λ suite.
     hint_of_padata suite (info_in reply)))
 

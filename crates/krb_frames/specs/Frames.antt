@@ -23,7 +23,7 @@ frame_room stream = if nat_lt frame_limit (announced stream) then 4 else 4 + ann
 -- a reply in its frame
 abbrev pub framed : List ℕ → List ℕ
 framed reply =
-    -- A message follows its length in four octets, the highest first (RFC 4120, section 7.2.2). Test: `serve` of `realms.txt`.
+    -- As over TCP, a message follows its length in four octets, the highest first (RFC 4120, section 7.2.2). Test: `serve` of `realms.txt`.
     big_bytes 4 (length reply) ++ reply
 
 -- what is at the front of a stream: nothing, no frame, or a whole message, and the rest that follows it

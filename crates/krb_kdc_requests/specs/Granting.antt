@@ -21,7 +21,8 @@ IsGranted gives (Err Memory) = Unit {0}
 -- the one reply that grants a ticket, its own part sealed under the reply key
 abbrev pub replied : GrantRecord → ReplyKeyRecord → AccountRecord → Random → Table (Result Bytes Code)
 replied grant under service words =
-    -- The reply has the ticket's part under the service's key (key usage 2), with its kvno, and its own part under the reply key (RFC
-    -- 4120, sections 3.1.3 and 3.3.3). Test: `as honest`, `tgs honest`.
+    -- The reply has the ticket's part under the service's key, with its kvno, for key usage 2 (RFC 4120, sections 3.1.3, 3.3.3 and 5.3).
+    -- Test: `as honest`, `tgs honest`.
+    -- The reply has its own part under the reply key (RFC 4120, sections 3.1.3 and 3.3.3). Test: `as honest`, `tgs honest`.
     make (IsTicketReply grant under service words) (sole_ticket_reply grant under service words) (λ bytes.
     done (Ok bytes))

@@ -55,8 +55,8 @@ abbrev pub padata_in : KdcReq → List PaData
 padata_in request = option_map_or (λ tagged. tagged.0) request.padata.0 []
 
 -- the request is of this message type, to this realm, and without an option that the realm doesn't grant
--- Ignored: other options (forwardable, proxiable, allow-postdate, renewable, renewable-ok, ..): the ticket has none of them (RFC 4120,
--- section 5.4.1). Test: `as harmless options`, `tgs harmless options`.
+-- Ignored: other options (forwardable, proxiable, allow-postdate, renewable, renewable-ok, ..) (RFC 4120, section 5.4.1). Test:
+-- `as harmless options`, `tgs harmless options`.
 abbrev pub header_rows : ℕ → Bytes → KdcReq → Table (Result (Unit {0}) Code)
 header_rows message_type realm request =
     -- `pvno` is 5 (RFC 4120, section 5.4.1). Test: `as pvno`, `tgs pvno`.
@@ -96,7 +96,7 @@ lasting lifetime moment old body =
     -- 19700101000000Z means no end (RFC 4120, sections 3.1.3, 3.3.3 and 5.4.1). Test: `as till edges`, `as padata among others`,
     -- `tgs till edges`, `tgs ticket end edges`.
     make (IsSpan lifetime moment old (seconds_of body.till.0.0)) (sole_span lifetime moment old (seconds_of body.till.0.0)) (λ span.
-    -- The endtime is after the starttime, which is now (RFC 4120, section 3.1.3). Test: `as till edges` of `five_suites.txt`,
-    -- `tgs old end`.
+    -- The endtime is after the starttime, which is now (RFC 4120, section 3.1.3). Test: `as till edges`, `tgs old end` of
+    -- `five_suites.txt`.
     refuse (is_ended span) KDC_ERR_NEVER_VALID
     (done (Ok span)))

@@ -40,12 +40,14 @@ chosen entries encrypted =
     -- It is the first that fits the ticket (RFC 4120, section 3.2.3). Test: `old key`, `new key`, `no kvno`, `second suite` of
     -- `keytab_rows.txt`.
     unwrap_or (find (is_fitting encrypted) entries)
-    -- Where none fits, it is the first of the ticket's kvno, or else the first of all. So the refusal is KRB_AP_ERR_NOKEY where some entry
-    -- has the kvno, and KRB_AP_ERR_BADKEYVER where none has (RFC 4120, section 3.2.3). Test: `other etype`, `unknown kvno`, `etype of another
-    -- kvno` of `keytab_rows.txt`.
+    -- Where none fits, it is the first of the ticket's kvno, or else the first of all (RFC 4120, section 3.2.3). Test:
+    -- `other etype of the second kvno`, `unknown kvno` of `keytab_rows.txt`.
     (unwrap_or (find (has_kvno_of encrypted) entries) (get_or entries 0 no_entry))
 
--- The code for a ticket that no entry fits (RFC 4120, section 3.2.3).
+-- The code for a ticket that no entry fits is KRB_AP_ERR_NOKEY where some entry has its kvno, or it has none (RFC 4120, section 3.2.3).
+-- Test: `other etype`, `etype of another kvno`, `other etype and no kvno` of `keytab_rows.txt`.
+-- The code for a ticket that no entry fits is KRB_AP_ERR_BADKEYVER where it has a kvno that no entry has (RFC 4120, section 3.2.3). Test:
+-- `unknown kvno`, `unknown kvno and other etype` of `keytab_rows.txt`.
 abbrev pub unfit_code_of : List EntryRecord → EncryptedData → Code
 unfit_code_of entries encrypted = if list_any (has_kvno_of encrypted) entries then KRB_AP_ERR_NOKEY else KRB_AP_ERR_BADKEYVER
 

@@ -14,7 +14,8 @@ use Rattle.krb_ap_requests.specs.Entry.{EntryRecord}
 abbrev pub is_suite_of : Entry → CipherSuite → Bool
 is_suite_of key_record suite = (cipher_number suite == key_record.etype) && (length key_record.key == cipher_key_size suite)
 
--- the key of that suite, if there is one
+-- A key record counts only if its etype is that of a suite whose keys have the key's length (RFC 4120, section 5.2.9). Test:
+-- `the keytab has no key of the service` of `keytab_rows.txt`.
 abbrev pub key_of : Entry → Option KeyRecord
 key_of key_record = option_map (λ suite. record { suite = suite; bytes = key_record.key }) (find (is_suite_of key_record) cipher_suites)
 
@@ -33,8 +34,8 @@ is_counted realm components key_record = is_record_of realm components key_recor
 -- The service's entry that a key record is, if it is one.
 unfoldable pub entry_of : Bytes → List Bytes → Entry → Option EntryRecord
 entry_of realm components key_record =
-    -- A key record counts for a service of its realm and name, with a kvno from 1 on, and an etype that is that of a suite whose keys have
-    -- the key's length (RFC 4120, sections 5.2.9, 6.2). Test: `other records`, `the keytab has no key of the service` of `keytab_rows.txt`.
+    -- A key record counts for a service of its realm and name, with a kvno from 1 on (RFC 4120, sections 5.2.9, 6.2). Test:
+    -- `other records`, `the keytab has no key of the service` of `keytab_rows.txt`.
     if is_counted realm components key_record
     then option_map (entry_with realm components key_record.kvno) (key_of key_record)
     else None

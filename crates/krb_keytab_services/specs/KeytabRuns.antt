@@ -24,6 +24,8 @@ IsKeytabRun service greatest admitted [] (answer ∷ answers) after = ⊥
 IsKeytabRun service greatest admitted (call ∷ calls) [] after = ⊥
 IsKeytabRun service greatest admitted (call ∷ calls) (answer ∷ answers) after =
     (next : List PairRecord)
+    -- Replay cache: a client and time that were admitted aren't admitted after the entries were replaced (RFC 4120, section 3.2.3).
+    -- Test: `again under a key that came`, `again under a key that was gone` of `keytab_rows.txt`.
     × IsAnswered (remembering_by_keytab (record service { entries = call.entries }) (max greatest call.asked.moment) admitted call.asked.message call.asked.words).gives
     admitted answer next
     × IsKeytabRun service (max greatest call.asked.moment) next calls answers after

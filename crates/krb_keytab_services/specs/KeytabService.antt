@@ -73,8 +73,8 @@ unfoldable pub remembering_by_keytab : KeytabServiceRecord → Micros → List P
 remembering_by_keytab service moment admitted message words =
     -- The bytes are the DER encoding of one AP-REQ (RFC 4120, section 5.5.1). Test: `no request` of `keytab_rows.txt`.
     ask (IsApReq message) (sole_ap_req message) (done (Err Unreadable, admitted)) (λ request.
-    -- A client and time that were admitted under one entry aren't admitted under another, nor after the entries were replaced (RFC 4120,
-    -- section 3.2.3). Test: `again`, `again under a key that was gone` of `keytab_rows.txt`; edit `forgets_old_entry.edit`.
+    -- Replay cache: a client and time that were admitted under one entry aren't admitted under another (RFC 4120, section 3.2.3).
+    -- Test: `again under another key` of `keytab_rows.txt`.
     remembering (service_for service request) moment admitted message words)
 
 -- what bytes present by the entry that judges them, or what they are refused for, or that they are of no request; or memory ran out

@@ -131,7 +131,8 @@ entries_at (suc n) place whole =
     and_then (slot_at place whole) (λ found. if_more found
     (λ slot. and_then (held_at slot place whole) (λ es. followed es (entries_at n slot.end whole))))
 
--- The version is 0x0502. Version 0x0501 has the byte order of a host, and is refused by its number. Test: `versions and ends` of `rows.txt`.
+-- The version of a keytab is 0x0502 (MIT's file keytab format). Version 0x0501 has the byte order of a host, and is refused by its number.
+-- Test: `versions and ends` of `rows.txt`.
 abbrev pub version_at : List ℕ → Result (Unit {0}) KeytabFault
 version_at whole =
     if nat_lt (length whole) 2 then Err (Truncated 0)

@@ -10,7 +10,7 @@ use Rattle.krb_program.specs.Realms.{realm_of_settings}
 use Rattle.krb_program.specs.declared.fault.RealmFault.{RealmFault}
 use Rattle.krb_program.specs.declared.fault.RealmFault.TheVariants.{File, Memory}
 
--- The bytes write this realm: its name, key and settings, and its accounts in the order of the file. Test: `files.txt`.
+-- The bytes write this realm: its name, key and settings, and its accounts in the order of the file. Test: `settings.txt`.
 abbrev pub IsRealmFile : List ℕ → RealmState → Type 0
 IsRealmFile text realm = (written : WrittenRealm) × IsRealmText text written × (realm_of_settings written ≡ Ok realm)
 

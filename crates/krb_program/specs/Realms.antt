@@ -35,8 +35,9 @@ in_account number (Err refusal) = Err (Account number refusal)
 
 -- whether an account is added, in the realm's order of refusals
 abbrev pub adding_secret : AccountMap → List (List ℕ) → CipherSuite → WrittenSecret → Result (Unit {0}) RealmRefusal
--- A name has one account at most, and `krbtgt` with the realm's name has one from the start. Test: `name ["a"] is account 1's, on line 7`,
--- `name ["krbtgt", "R"] is the ticket-granting service's, whose key is the realm's`.
+-- A name has one account at most. Test: `name ["a"] is account 1's, on line 7`.
+-- `krbtgt` with the realm's name has its account from the start (RFC 4120, section 7.3). Test: `name ["krbtgt", "R"] is the ticket-granting
+-- service's, whose key is the realm's`.
 adding_secret accounts name suite (password _) = adding_by_password accounts name
 -- A key has as many octets as the keys of its suite. Test: `key has 62 hexadecimal digits`.
 adding_secret accounts name suite (key bytes) = adding accounts name suite bytes

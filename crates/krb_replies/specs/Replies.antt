@@ -32,39 +32,41 @@ e_data_of offered of_client code = if code == KDC_ERR_PREAUTH_REQUIRED then opti
 abbrev pub reply_of : CallRecord → (Code → Option Bytes) → KdcReq → Result Bytes Code → Table (Option Bytes)
 reply_of call e_data request (Ok bytes) = done (Some bytes)
 reply_of call e_data request (Err code) =
-    -- A KRB-ERROR has the code, stime and susec of now, the realm, and the request's sname, else `krbtgt` with the realm (name type 2);
-    -- it has no ctime, cusec, crealm, cname or e-text (RFC 4120, section 5.9.1). Test: `tgs pvno`, `as service absent`.
+    -- A KRB-ERROR has the code, stime and susec of now, and the realm; it has no ctime, cusec, crealm, cname or e-text (RFC 4120, section
+    -- 5.9.1). Test: `tgs pvno`, `as service absent` of `kdc_exchanges.txt`.
+    -- The sname of a KRB-ERROR is the request's, else `krbtgt` with the realm, of name type 2 (RFC 4120, sections 5.9.1, 6.2 and 7.3).
+    -- Test: `tgs pvno`, `as service absent` of `kdc_exchanges.txt`.
     make (IsSecondOf call.moment) (sole_second call.moment) (λ time.
     done (Some (error_bytes call.realm time (call.moment % 1000000) (named_service call.realm (service_of (body_of request))) code (e_data code))))
 
 -- the reply to a request whose table this is, with the e-data that belongs to the code of an error
 abbrev pub answered : CallRecord → (Code → Option Bytes) → KdcReq → Table (Result Bytes Code) → Table (Option Bytes)
 answered call e_data request judged =
-    -- The outcome of the exchange's table is the reply (RFC 4120, sections 3.1.3 and 3.3.3). Test: `as honest`, `tgs honest`.
+    -- The outcome of the exchange's table is the reply (RFC 4120, sections 3.1.3 and 3.3.3). Test: `as honest`, `tgs honest` of
+    -- `kdc_exchanges.txt`.
     make judged.gives judged.one (reply_of call e_data request)
 
 -- the reply to an AS request, by these rows for PA-PK-AS-REQ, for the accounts of client and service if they have one
 abbrev pub as_reply : CallRecord → PkinitRows → Option AccountRecord → Option AccountRecord → KdcReq → Table (Option Bytes)
 as_reply call rows of_client of_service request =
-    -- E-data is there with error 25 alone: METHOD-DATA, in this order: PA-ETYPE-INFO2 with one entry (etype, salt if there is one, no
-    -- s2kparams), an empty PA-ENC-TIMESTAMP, and an empty PA-PK-AS-REQ if the realm has an anchor (RFC 4120, section 5.2.7.5; RFC 4556,
-    -- section 3.4). Test: `as no padata`, `answer` of `realms.txt`.
+    -- A KRB-ERROR that answers an AS-REQ has e-data with error 25 alone (KDC_ERR_PREAUTH_REQUIRED): the METHOD-DATA of the client's account
+    -- (RFC 4120, section 5.9.1). Test: `as no padata`, `as service absent` of `kdc_exchanges.txt`.
     answered call (e_data_of rows.offered of_client) request (as_table call rows of_client of_service request)
 
 -- the reply to a TGS request, whose errors have no e-data
 abbrev pub tgs_reply : CallRecord → KdcReq → Table (Option Bytes)
 tgs_reply call request =
-    -- A KRB-ERROR that answers a TGS-REQ has no e-data (RFC 4120, section 5.9.1). Test: `tgs pvno`.
+    -- A KRB-ERROR that answers a TGS-REQ has no e-data (RFC 4120, section 5.9.1). Test: `tgs pvno` of `kdc_exchanges.txt`.
     answered call (λ code. None) request (tgs_table call request)
 
 -- the reply to a message, and none to bytes that are the one encoding of no AS-REQ and of no TGS-REQ
 abbrev pub replies : CallRecord → PkinitRows → Bytes → Table (Option Bytes)
 replies call rows request =
     -- The bytes are the DER encoding of an AS-REQ with nothing after it, else they are judged as a TGS-REQ (RFC 4120, section 5.4.1).
-    -- Test: `as outer tag!`, `as damaged bytes!`, `as length long!`; `as byte behind!` of `five_suites.txt`.
+    -- Test: `as damaged bytes!`, `as length on four bytes!`, `as byte behind!`, `tgs honest` of `five_suites.txt`.
     ask (IsAsReq request) (sole_as_req request)
     -- The bytes are the DER encoding of a TGS-REQ with nothing after it, else there is no reply (RFC 4120, section 5.4.1). Test:
-    -- `tgs length one more!`, `tgs damaged bytes!`, `tgs byte behind!`, `message a KRB-ERROR!`.
+    -- `tgs length one more!`, `tgs damaged bytes!`, `tgs byte behind!`, `message a KRB-ERROR!` of `kdc_exchanges.txt`.
     (ask (IsTgsReq request) (sole_tgs_req request) (done None) (tgs_reply call))
     (λ v. as_reply call rows (account_of call.look (client_of (body_of v))) (account_of call.look (service_of (body_of v))) v)
 

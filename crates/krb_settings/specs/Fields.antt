@@ -39,7 +39,7 @@ has_only fields document = list_all (is_among fields) (keys_in document)
 
 -- nothing where a table has only keys that name these fields, else the fault of an unknown key
 abbrev pub only : List Field → Members → Result (Unit {0}) TableFault
--- Each key of a table is the name of a field. Test: `unknown key "skwe"`, `unknown key "pasword"`.
+-- Each key of a table is the name of one of its fields. Test: `unknown key "skwe"`, `unknown key "pasword"`.
 only fields document = if has_only fields document then Ok tt else Err UnknownKey
 
 -- what a field holds, where the table has it

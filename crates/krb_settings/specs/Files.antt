@@ -25,7 +25,8 @@ IsRealmText text realm = (document : Members) × IsDocument text document × (re
 abbrev pub IsUnread : List ℕ → SettingsFault → Type 0
 -- A file has at most 1,048,576 bytes. Test: `/dev/zero` of `named_files.txt`.
 IsUnread text TooLong = settings_limit < length text
--- A file is UTF-8 and TOML 1.0. Test: `invalid UTF-8` of `named_files.txt`, `unclosed string` of `files.txt`.
+-- A file is UTF-8. Test: `invalid UTF-8` of `named_files.txt`.
+-- A file is TOML 1.0. Test: `unclosed string` of `files.txt`.
 IsUnread text (NotToml _) = (length text ≤ settings_limit) × ((document : Members) → ¬ IsDocument text document)
 IsUnread text _ = ⊥
 

@@ -96,9 +96,10 @@ abbrev pub is_des3 : CipherSuite → Bool
 is_des3 Des3CbcSha1Kd = true
 is_des3 _ = false
 
--- A key is none of the example's and not one octet repeated, or there is a warning. One of triple DES has odd parity and no weak part (RFC
--- 3961, section 6.3.1). Test: `key is one octet repeated` of `files.txt`, `key has an octet of even parity`, `key has a weak or semi-weak
--- DES key in it`.
+-- A key is none of the example's and not one octet repeated, or there is a warning. Test: `key is one of examples/settings.toml, which
+-- everyone knows`, `key is one octet repeated` of `files.txt`.
+-- A key of triple DES has odd parity and no weak or semi-weak DES key in it, or there is a warning (RFC 3961, section 6.3.1). Test: `key
+-- has an octet of even parity`, `key has a weak or semi-weak DES key in it` of `files.txt`.
 abbrev pub key_cases : CipherSuite → List ℕ → List Case
 key_cases suite octets =
     (list_any (λ example. pointwise nat_eq octets example) EXAMPLE_KEYS, warning.KeyExample)
@@ -141,6 +142,7 @@ abbrev pub accounts_found : WrittenRealm → ℕ → List WrittenAccount → Lis
 accounts_found realm index [] = []
 accounts_found realm index (account ∷ rest) = account_found realm index account ++ accounts_found realm (suc index) rest
 
--- The warnings of a realm are those of its name, of its key and of each account, in the order of the file. Test: `warning` of `files.txt`.
+-- The warnings of a realm are those of its name, then of its key, then of each account, in the order of the file's accounts. Test:
+-- `warning` of `files.txt`.
 abbrev pub warnings : WrittenRealm → List Found
 warnings realm = met place.File (realm_cases realm.name) ++ met place.File (key_cases realm.suite realm.key) ++ accounts_found realm 0 realm.accounts

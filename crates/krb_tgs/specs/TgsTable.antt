@@ -58,7 +58,7 @@ to_us realm request =
 -- the AP-REQ that the first padata PA-TGS-REQ is
 abbrev pub carried : List PaData → Table (Result ApReqInner Code)
 carried padata =
-    -- Padata PA-TGS-REQ is there; of several the first counts (RFC 4120, section 5.2.7.1). Test: `tgs no padata`, `tgs other padata`,
+    -- Padata PA-TGS-REQ is there. Of several the first counts (RFC 4120, section 5.2.7.1). Test: `tgs no padata`, `tgs other padata`,
     -- `tgs padata twice, first bad`.
     need (first_of PA_TGS_REQ padata) KDC_ERR_PADATA_TYPE_NOSUPP (λ value.
     -- PA-TGS-REQ is the DER encoding of one AP-REQ (RFC 4120, section 5.2.7.1). Test: `tgs AP-REQ junk`, `tgs AP-REQ long length`.
@@ -142,7 +142,8 @@ subkey_in authenticator = option_map (λ tagged. tagged.0) authenticator.subkey.
 abbrev pub under_subkey : EncryptionKey → Option ReplyKeyRecord
 under_subkey subkey = option_map (λ suite. tgs_subkey_reply_key suite subkey.key_value.0) (suite_of subkey)
 
--- the reply key: the authenticator's subkey, and without one the session key
+-- The reply key is the authenticator's subkey, and without one the session key (RFC 4120, section 3.3.3). Test: `tgs subkey`, `tgs honest`
+-- of `kdc_exchanges.txt`.
 abbrev pub reply_key : CipherSuite → Bytes → Option EncryptionKey → Option ReplyKeyRecord
 reply_key suite key None = Some (tgs_reply_key suite key)
 reply_key suite key (Some subkey) = under_subkey subkey
@@ -170,9 +171,8 @@ further call part authenticated service_name service body =
     -- `etype` lists a known encryption type; the session key is of the first that is known (RFC 4120, section 3.3.3). Test:
     -- `tgs no known suite`, `tgs first known suite` of `five_suites.txt`.
     need (first_known body.etype.0) KDC_ERR_ETYPE_NOSUPP (λ suite.
-    -- The reply key is the subkey, for key usage 9, whose type and length are a suite's; without one it is the session key, for key
-    -- usage 8 (RFC 4120, sections 3.3.3 and 5.4.2). Test: `tgs subkey type`, `tgs subkey length`, `tgs subkey`, `tgs honest` of
-    -- `five_suites.txt`.
+    -- The type and length of the authenticator's subkey are a suite's, if there is one (RFC 3961, section 3). Test: `tgs subkey type`,
+    -- `tgs subkey length` of `five_suites.txt`.
     need (reply_key authenticated.suite part.key.0.key_value.0 (subkey_in authenticated.authenticator)) KRB_AP_ERR_BAD_INTEGRITY (λ under.
     -- The ticket has client, authtime and flag pre-authent of the presented ticket; the flag initial isn't set (RFC 4120, section
     -- 3.3.3). Test: `tgs honest`, `tgs ticket flags short`.
@@ -217,6 +217,11 @@ of_carried call body ap_req =
 -- Not judged: replay, since a realm remembers nothing between requests (RFC 4120, section 3.3.2). No test: the contract alone covers it.
 -- Not judged: `from`, `rtime`, `addresses`, the body's `cname` and `additional-tickets` (RFC 4120, section 3.3.3). Test:
 -- `tgs from edges`, `tgs body client`, `tgs additional tickets`, `tgs rtime, addresses` of `five_suites.txt`.
+-- Not judged: the ticket's caddr, transited and authorization-data, and the authenticator's seq-number and authorization-data (RFC 4120,
+-- sections 5.3 and 5.5.1). No test: the contract alone covers it.
+-- Ignored: padata of other types (RFC 4120, section 3.3.2). Test: `tgs padata among others` of `five_suites.txt`.
+-- Ignored: the name type of `sname`; names are compared by their components (RFC 4120, section 6.2). Test: `tgs service type` of
+-- `five_suites.txt`.
 abbrev pub tgs_table : CallRecord → KdcReq → Table (Result Bytes Code)
 tgs_table call request =
     and_then (to_us call.realm request) (λ _.

@@ -16,7 +16,8 @@ use Rattle.krb_types.specs.declared.data_types.pa_data.PaData.{PaData}
 use Rattle.krb_types.specs.Trees as held
 use Rattle.asn1_der.specs.Octets.{sequence_octet}
 
--- how a key is made of a password: the etype of its suite, and the salt if there is one
+-- PA-ETYPE-INFO2 has one entry: the etype of the client's key, its salt if there is one, and no s2kparams (RFC 4120, section 5.2.7.5).
+-- Test: `as no padata`, `as no preauthentication` of `kdc_exchanges.txt`.
 abbrev pub key_entry : CipherSuite → Option Bytes → EtypeInfo2Entry
 key_entry suite salt = record {
   etype = record { 0 = pos (cipher_number suite) };
@@ -41,12 +42,14 @@ salt_of (Some salt) = if is_general_string salt then Some salt else None
 abbrev pub pa_data_of : ℕ → Bytes → PaData
 pa_data_of kind value = record { padata_type = record { 0 = pos kind }; padata_data = record { 0 = value } }
 
--- these two entries, and an empty PA-PK-AS-REQ where certificates are accepted (RFC 4556, section 3.4)
+-- METHOD-DATA ends with an empty PA-PK-AS-REQ where the realm accepts certificates (RFC 4556, section 3.4). Test: `no preauthentication, b`
+-- of `pkinit_exchanges.txt`.
 abbrev pub method_list : Bool → PaData → PaData → List PaData
 method_list false info timestamp = info ∷ timestamp ∷ []
 method_list true info timestamp = info ∷ timestamp ∷ pa_data_of PA_PK_AS_REQ [] ∷ []
 
--- the entries for an account: PA-ETYPE-INFO2, an empty PA-ENC-TIMESTAMP, and an empty PA-PK-AS-REQ where certificates are accepted
+-- METHOD-DATA begins with PA-ETYPE-INFO2, and an empty PA-ENC-TIMESTAMP follows it (RFC 4120, sections 5.2.7.5 and 5.9.1). Test: `as no
+-- preauthentication` of `kdc_exchanges.txt`.
 unfoldable pub method_data : Bool → AccountRecord → List PaData
 method_data by_certificate account = method_list by_certificate (pa_data_of PA_ETYPE_INFO2 (key_info_bytes account)) (pa_data_of PA_ENC_TIMESTAMP [])
 

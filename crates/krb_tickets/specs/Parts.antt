@@ -36,7 +36,8 @@ session_key_of suite words = seed_key_of suite (session_seed (cipher_seed_size s
 abbrev pub flags_octet : TicketFlags → ℕ
 flags_octet flags = (if flags.initial then INITIAL_MASK else 0x00) + (if flags.pre_authenticated then PRE_AUTHENT_MASK else 0x00)
 
--- a ticket's flags, as 32 bits
+-- Of a ticket's flags, as 32 bits, initial and pre-authent alone can be set: not forwardable, proxiable, may-postdate or renewable (RFC
+-- 4120, section 5.3). Test: `as harmless options`, `tgs harmless options` of `five_suites.txt`.
 abbrev pub flags_of : TicketFlags → Bits
 flags_of flags = record { octets = 0x00 ∷ flags_octet flags ∷ 0x00 ∷ 0x00 ∷ []; unused = 0 }
 

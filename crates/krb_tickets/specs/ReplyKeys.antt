@@ -35,11 +35,13 @@ reply_key_of this = record {
 abbrev pub as_reply_key : AccountRecord → ReplyKeyRecord
 as_reply_key client = record { exchange = As; suite = client.suite; key = client.key; kvno = Some client.kvno; usage = key_usage AS_REP_ENC; pk_as_rep = None }
 
--- the presented ticket's session key is the reply key of a TGS exchange without a subkey
+-- The presented ticket's session key is the reply key of a TGS exchange without a subkey, for key usage 8 (RFC 4120, sections 3.3.3 and
+-- 5.4.2). Test: `tgs honest` of `kdc_exchanges.txt`.
 abbrev pub tgs_reply_key : CipherSuite → Bytes → ReplyKeyRecord
 tgs_reply_key suite key = record { exchange = Tgs; suite = suite; key = key; kvno = None; usage = key_usage TGS_REP_ENC_SESSION_KEY; pk_as_rep = None }
 
--- the authenticator's subkey is the reply key of a TGS exchange where there is one
+-- The authenticator's subkey is the reply key of a TGS exchange where there is one, for key usage 9 (RFC 4120, sections 3.3.3 and 5.4.2).
+-- Test: `tgs subkey` of `kdc_exchanges.txt`.
 abbrev pub tgs_subkey_reply_key : CipherSuite → Bytes → ReplyKeyRecord
 tgs_subkey_reply_key suite key = record { exchange = Tgs; suite = suite; key = key; kvno = None; usage = key_usage TGS_REP_ENC_SUB_KEY; pk_as_rep = None }
 

@@ -38,9 +38,11 @@ begins_past header whole = nat_lt 0 (le32_at 4 header) && nat_lt (length whole) 
 abbrev pub vector_read : {V : Type 0} → Layout V → List ℕ → List ℕ → Answer (List V)
 vector_read l header whole =
     if nat_lt (length header) 8 then Err UnexpectedEof
-    -- An offset past the message is refused if there are elements (InvalidData), and elements past its end are (UnexpectedEof) (MS-NEGOEX,
-    -- section 2.2.5.2). Test: `refused_exchanges` of `negoex.rt`, `offsets_at_the_end` of `negoex.rt`.
+    -- An offset past the message's end is refused if the vector has elements (MS-NEGOEX, section 2.2.5.2). Test: `refused_exchanges`,
+    -- `offsets_at_the_end` of `negoex.rt`.
     else if begins_past header whole then Err InvalidData
+    -- Elements of a vector, as bytes and GUIDs, are refused where the message has fewer octets left than an element has (MS-NEGOEX,
+    -- section 2.2.5.2). Test: `refused_exchanges`, `other_refusals` of `negoex.rt`.
     else elements_at l (le32_at 4 header) (le32_at 0 header) whole
 
 -- the sum of the elements' payloads
@@ -68,8 +70,7 @@ abbrev pub behind_heads : {V : Type 0} → Layout V → List V → ℕ → ℕ
 behind_heads l xs o = o + length xs * l.width
 
 -- A vector is the offset of its elements in octets 0 to 3 of the header, their count in 4 to 7, and the elements at the offset. Without
--- elements the offset may be any (MS-NEGOEX, section 2.2.5.2). Test: `schemes_and_extensions`, `offsets_at_the_end` of `negoex.rt`;
--- `second_vector_over_first`.
+-- elements the offset may be any (MS-NEGOEX, section 2.2.5.2). Test: `schemes_and_extensions`, `offsets_at_the_end` of `negoex.rt`.
 abbrev pub vector_layout : {V : Type 0} → Layout V → Layout (List V)
 vector_layout l = record {
   width = 8;

@@ -61,8 +61,10 @@ abbrev pub AreSized : ℕ → List Buffer → Type 0
 AreSized n [] = Unit {0}
 AreSized n (b ∷ bs) = IsSized n b × AreSized n bs
 
--- A PAC is cBuffers, Version 0, one PAC_INFO_BUFFER of 16 octets for each buffer, and each content of cbBufferSize octets at its Offset
--- (MS-PAC, sections 2.3 and 2.4). Test: `structure_example` of `pac.rt`; `layout_of_its_own`.
+-- A PAC is cBuffers, Version 0, one PAC_INFO_BUFFER of 16 octets for each buffer, and the contents (MS-PAC, sections 2.3 and 2.4). Test:
+-- `structure_example` of `pac.rt`.
+-- The content of a buffer has cbBufferSize octets, and begins at its Offset from the PAC's first octet (MS-PAC, section 2.4). Test:
+-- `structure_example` of `pac.rt`.
 -- Not judged: the signatures and the contents. No test: the contract alone covers it.
 pub record IsPac (bs : List Buffer) (whole : List ℕ) : Type 0 where
   pub parts : IsLaidOut (pac_parts bs) whole

@@ -23,11 +23,10 @@ Gives view result told = MatchResult result (λ a. told ≡ Ok (view a)) (λ e. 
 abbrev pub head_at : Option ErrorKind → List ℕ → Result ℕ PacError
 head_at stop whole =
     if nat_lt (length whole) 8 then Err (short_of stop)
-    -- Version is 0 (MS-PAC, section 2.3). Test: `refusals` of `pac.rt`, `wrong_pacs` of `failing.rt`.
+    -- Version is 0 (MS-PAC, section 2.3). Test: `refusals` of `pac.rt`.
     else if nat_eq (le32_at 4 whole) 0 then Ok (le32_at 0 whole) else Err (InvalidVersion (le32_at 4 whole))
 
--- The ulType of the row at this place is known, and is judged before the rest of its PAC_INFO_BUFFER (PacBufferType) (MS-PAC, section 2.4).
--- Test: `refusals` of `pac.rt`, `wrong_pacs` of `failing.rt`.
+-- The ulType of a PAC_INFO_BUFFER is 1, 2, 6, 7 or one of 10 to 16 (MS-PAC, section 2.4). Test: `refusals` of `pac.rt`.
 abbrev pub kind_at : Option ErrorKind → ℕ → List ℕ → Result PacBufferType PacError
 kind_at stop place whole = if nat_lt (length whole - place) 4 then Err (short_of stop) else kind_judged (le32_at place whole)
 
@@ -37,7 +36,7 @@ fields_at stop kind place whole =
     if nat_lt (length whole - place) 16 then Err (short_of stop)
     else Ok (record { ul_type = kind; cb_buffer_size = le32_at (place + 4) whole; offset = le64_at (place + 8) whole })
 
--- the PAC_INFO_BUFFER at this place: first its ulType, and then all of it (MS-PAC, section 2.4)
+-- The ulType is judged before the rest of its PAC_INFO_BUFFER is read (MS-PAC, section 2.4). Test: `refusals` of `pac.rt`.
 abbrev pub info_at : Option ErrorKind → ℕ → List ℕ → Result PacInfoBuffer PacError
 info_at stop place whole = and_then (kind_at stop place whole) (λ kind. fields_at stop kind place whole)
 

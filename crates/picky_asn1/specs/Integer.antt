@@ -31,7 +31,7 @@ integer_value octets =
     else negsuc (number_from_digits 256 (map complement octets))
 
 -- An INTEGER has the fewest octets: at least one, and the first nine bits are not all zero and not all one (X.690, section 8.3). Test:
--- `no_integers` of `leaves.rt`; `as integer padded FF!`.
+-- `no_integers` of `leaves.rt`.
 abbrev pub is_integer : List ℕ → Bool
 is_integer [] = false
 is_integer (octet ∷ []) = true

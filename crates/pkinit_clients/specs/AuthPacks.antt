@@ -27,8 +27,8 @@ authenticator_of body second microsecond = record {
   pa_checksum = record { 0 = Some (record { 0 = sha1 (body_bytes body) }) };
 }
 
--- AuthPack has pkAuthenticator, and as clientPublicValue what the key functions give. It has neither supportedCMSTypes nor clientDHNonce
--- (RFC 4556, section 3.2.1). Test: `b@R for HTTP/www, public`, `a@R for h, alg` of `pkinit_steps.txt`.
+-- AuthPack has pkAuthenticator and clientPublicValue. It has neither supportedCMSTypes nor clientDHNonce (RFC 4556, section 3.2.1).
+-- Test: `b@R for HTTP/www, public`, `a@R for h, test` of `pkinit_steps.txt`.
 abbrev pub auth_pack_of : PkAuthenticator → Raw → AuthPack Raw
 auth_pack_of authenticator value = record {
   pk_authenticator = record { 0 = authenticator };

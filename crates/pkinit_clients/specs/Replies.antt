@@ -98,7 +98,7 @@ of_content keys asked content =
     -- The eContentType of dhSignedData is id-pkinit-DHKeyData (RFC 4556, section 3.2.3.1).
     -- Test: `open: a@R, content type of requests` of `pkinit_steps.txt`.
     refuse (not (is_dh_key_data content)) NotTrusted
-    -- The realm's ticket-granting service krbtgt signed dhSignedData; its certificate is valid at the request's moment (RFC 4556, section
+    -- The realm's ticket-granting service krbtgt signed dhSignedData. Its certificate is valid at the request's moment (RFC 4556, section
     -- 3.2.4). Test: `a@R, certificate for krbtgt of another realm`, `a@R, certificate ended a second ago` of `pkinit_steps.txt`.
     (and_then (signed_by keys (expected_realm asked) content) (λ _.
     of_key_data keys asked (content_of content.info)))

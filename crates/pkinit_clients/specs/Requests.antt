@@ -38,6 +38,8 @@ pack_bytes body moment second value = auth_pack_bytes (auth_pack_of (authenticat
 -- the public value of the random bytes.
 pub record IsPkAsReqOf (keys : KeysRecord) (certificate : Bytes) (body : KdcReqBody) (moment : Micros) (words bytes : Bytes) : Type 0 where
   pub value : Raw
+  -- The clientPublicValue of a request is the public value that the key functions give for the random bytes (RFC 4556, section 3.2.1).
+  -- Test: `b@R for HTTP/www, public`, `a@R for h, test` of `pkinit_steps.txt`.
   pub is_value : keys.public_value words ≡ Some value
   pub second : GeneralizedTime
   pub of_moment : IsSecondOf moment second

@@ -7,7 +7,7 @@ use Rattle.pkinit_requests.specs.PkinitTable.{pkinit_table}
 use Rattle.pkinit_requests.specs.Trust.{TrustRecord}
 
 -- The rows of a realm with this trust and these keys. The realm offers PA-PK-AS-REQ in its e-data if it has an anchor (RFC 4120, section
--- 7.5.9). Test: `no preauthentication, b`.
+-- 5.9.1). Test: `no preauthentication, b`.
 abbrev pub pkinit_rows : TrustRecord → KeysRecord → PkinitRows
 pkinit_rows trust keys = record {
   offered = is_some trust.anchor;

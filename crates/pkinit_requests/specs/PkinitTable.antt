@@ -40,10 +40,11 @@ auth_pack_fields body pack =
     -- The AuthPack has clientPublicValue, which may be any element (RFC 4556, section 3.2.1).
     -- Test: `public value missing`, `granted, public value NULL`.
     need (value_in pack) KDC_ERR_PREAUTH_FAILED (λ value.
-    -- The cusec of pkAuthenticator is part of a second (RFC 4556, section 3.2.1).
+    -- The cusec of pkAuthenticator is from 0 to 999,999 (RFC 4556, section 3.2.1).
     -- Test: `cusec 1000000`, `cusec -1`, `granted, cusec 999999`.
     need (time_in pack) KDC_ERR_PREAUTH_FAILED (λ time.
-    -- The paChecksum of pkAuthenticator is there, and is the SHA-1 digest of the KDC-REQ-BODY (RFC 4556, section 3.2.1).
+    -- The paChecksum of pkAuthenticator is there, and is the SHA-1 digest of the KDC-REQ-BODY (RFC 4556, section 3.2.1). A missing one has
+    -- this error too, and not KDC_ERR_PA_CHECKSUM_MUST_BE_INCLUDED (79).
     -- Test: `checksum missing, client b`, `checksum 19 bytes`.
     refuse (not (covers body pack)) KDC_ERR_PREAUTH_FAILED
     (done (Ok (record { value = value; time = time; nonce = pack.pk_authenticator.0.nonce.0 })))))
@@ -51,8 +52,8 @@ auth_pack_fields body pack =
 -- Judges the signature of signedAuthPack.
 abbrev pub signed_by_client : KeysRecord → ExpectedRecord → SignedParts → Table (Result (Unit {0}) Code)
 signed_by_client keys expected content =
-    -- The client signed the content, by a certificate that is accepted under the realm's anchor (RFC 4556, section 3.2.2).
-    -- Test: `signed: signature wrong`, `principal: other principal`, `another issuer`.
+    -- The client signed the content, by a certificate that is accepted under the realm's anchor and names the client (RFC 4556, section
+    -- 3.2.2). Test: `signed: signature wrong`, `principal: other principal`, `another issuer`.
     and_then_told code_of (trusted keys expected (judged_in content)) (λ _. done (Ok tt))
 
 -- Judges the time of pkAuthenticator and agrees on a secret by clientPublicValue.
@@ -61,7 +62,8 @@ agreed_on keys judging fields =
     -- The ctime and cusec of pkAuthenticator are within the clock skew (RFC 4556, section 3.2.2).
     -- Test: `PKAuthenticator late by a microsecond`, `granted, skew late edge`.
     refuse (is_far judging.skew judging.expected.moment fields.time) KRB_AP_ERR_SKEW
-    -- The KDC's key agreement has a secret for clientPublicValue (RFC 4556, section 3.2.2).
+    -- The KDC's key agreement has a secret for clientPublicValue (RFC 4556, section 3.2.2, where 65 is
+    -- KDC_ERR_DH_KEY_PARAMETERS_NOT_ACCEPTED).
     -- Test: `agree none, client b`, `agree none, loose realm`.
     (need (keys.agree (WholeValue fields.value) (agreement_bytes judging.words)) KDC_ERR_KEY_TOO_WEAK (λ secret.
     and_then (pk_as_rep keys judging.certificate fields.nonce judging.words) (λ reply.

@@ -40,8 +40,8 @@ key_info_of value nonce = record {
 unfoldable pub key_info_bytes : KdcDhKeyInfo → Bytes
 key_info_bytes info = der (tagged_tree sequence_octet info_impl.ghosts.row_tree info_impl.ghosts.row_of info)
 
--- PA-PK-AS-REP has dhInfo with dhSignedData. It has no serverDHNonce, so the reply key is made of the secret alone (RFC 4556, section
--- 3.2.3.1). Test: `granted a suite 18`, `granted, client nonce`.
+-- PA-PK-AS-REP has dhInfo with dhSignedData. It has no serverDHNonce, even where clientDHNonce is there (RFC 4556, section 3.2.3.1).
+-- Test: `granted a suite 18`, `granted, client nonce`.
 abbrev pub dh_reply_of : Bytes → PaPkAsRep
 dh_reply_of signed = DhInfo (record { 0 = record { dh_signed_data = record { 0 = signed }; server_dh_nonce = record { 0 = None } } })
 

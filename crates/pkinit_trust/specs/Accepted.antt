@@ -47,7 +47,8 @@ has_unrecognised certificate = list_any is_unrecognised (extensions_in certifica
 -- Judges a certificate under the anchor: its validity, its issuer, its critical extensions and its signature.
 -- Not judged: keyUsage, extKeyUsage (id-pkinit-KPClientAuth, id-pkinit-KPKdc) and basicConstraints (RFC 4556, sections 3.2.2 and 3.2.4;
 -- RFC 5280, section 4.2.1.9). Test: `critical key usage and constraints`, `CA TRUE client certificate`.
--- Not judged: revocation, and the validity and the extensions of the anchor's own certificate (RFC 5280, section 6.1).
+-- Not judged: revocation of the certificate (RFC 5280, section 6.1.3). No test: neither a CRL nor an OCSP response is given.
+-- Not judged: the validity and the extensions of the anchor's own certificate (RFC 5280, section 6.1).
 -- Test: `first microsecond of 0000`.
 abbrev pub issued : KeysRecord → ExpectedRecord → ReadRecord → Table (Result (Unit {0}) TrustRefusal)
 issued keys expected read =
@@ -62,7 +63,7 @@ issued keys expected read =
     -- Test: `critical generic extension`, `generic extension not critical`.
     (refuse (has_unrecognised read.certificate) CantVerifyCertificate
     -- The signature verifies under the anchor's key, by signatureAlgorithm, over the octets of tbsCertificate in the input (RFC 5280,
-    -- section 6.1.3). Test: `certificate spelled loosely, signed over its strict spelling`, `verifies_reencoded_part.edit`.
+    -- section 6.1.3). Test: `signature of the certificate wrong`, `certificate spelled loosely, signed over its strict spelling`.
     (refuse (not (keys.verifies expected.anchor.key read.certificate.signature_algorithm read.signed read.certificate.signature_value.octets)) CantVerifyCertificate
     (done (Ok tt)))))
 

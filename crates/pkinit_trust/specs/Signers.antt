@@ -22,7 +22,9 @@ signed_by keys certificate judged =
     -- The message-digest attribute is the SHA-256 digest of the eContent octets (RFC 5652, sections 5.4 and 5.6).
     -- Test: `digest of other content`, `digest empty`.
     (refuse (not (pointwise nat_eq (sha256 judged.content) judged.digest)) InvalidSignature
-    -- The signature verifies under the certificate's key over the signed attributes with the tag of a SET OF (RFC 5652, section 5.4).
-    -- Test: `signature over first byte A0`, `signature over the content`.
+    -- The signature verifies under the certificate's key over the signed attributes (RFC 5652, sections 5.4 and 5.6).
+    -- Test: `signature wrong`, `signature over the content` of `trusted.txt`.
+    -- The signature is over the signed attributes with the tag of a SET OF in place of [0] (RFC 5652, section 5.4).
+    -- Test: `signature over first byte A0` of `trusted.txt`.
     (refuse (not (keys.verifies certificate.tbs_certificate.subject_public_key_info judged.algorithm judged.covered judged.signature)) InvalidSignature
     (done (Ok tt)))))

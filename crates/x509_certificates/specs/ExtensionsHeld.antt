@@ -9,8 +9,8 @@ use Rattle.x509_names.specs.Parameters.{or_else}
 use Rattle.x509_names.specs.declared.general_name.GeneralName.{GeneralName}
 use Rattle.x509_parts.specs.declared.basic_constraints.BasicConstraints.{BasicConstraints}
 
--- Where an extension is there twice, against RFC 5280, section 4.2, the first counts.
--- Test: `first of two subject alternative names is another` of `trusted.txt`.
+-- Where an extension is there twice, against RFC 5280, section 4.2, the first that has what is sought counts. Test:
+-- `first of two subject alternative names is another`, `two subject alternative names, the principal in the second` of `trusted.txt`.
 abbrev pub first_among : {T : Type 0} → (ExtensionValue → Option T) → List Extension → Option T
 first_among held_by [] = None
 first_among held_by (extension ∷ extensions) = or_else (held_by extension.extn_value) (first_among held_by extensions)

@@ -30,7 +30,7 @@ pub record HoldsFirst {P : Type 0} (spells : P → List ℕ → ℕ → Type 0) 
   pub sum : n ≡ own + others
 
 -- The signed part is the input's own bytes, the first element of its content, and is never encoded again. Its DER is the same exactly
--- where nothing deviates in it (RFC 5280, section 4.1). Test: `openssl.txt`, `certificates.txt`, `verifies_reencoded_part.edit`.
+-- where nothing deviates in it (RFC 5280, section 4.1). Test: `certificates.txt`.
 pub record IsSignedPart {P : Type 0} (spells : P → List ℕ → ℕ → Type 0) (tree : P → Tree) (part : P) (bytes signed : List ℕ) : Type 0 where
   pub place : IsPart bytes (0 ∷ []) signed
   pub spelled : (n : ℕ) × spells part signed n

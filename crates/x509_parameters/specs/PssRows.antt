@@ -9,8 +9,9 @@ use Rattle.x509_parameters.specs.declared.rsassa_pss_params.RsassaPssParams.{Rsa
 abbrev pub PssRow : Type 0
 PssRow = Explicit 0 HashAlgorithm × (Explicit 1 MaskGenAlgorithm × (Explicit 2 ℤ × ⊤))
 
--- RSASSA-PSS-params has hashAlgorithm, maskGenAlgorithm and saltLength, also where DEFAULT would leave one out. A trailerField is refused,
--- and SHA-1 too (RFC 8017, appendix A.2.3). Test: `PSS, no salt`, `PSS, trailer field`, `PSS with SHA-1` of `read.txt`.
+-- RSASSA-PSS-params has hashAlgorithm, maskGenAlgorithm and saltLength, also where DEFAULT would leave one out. A trailerField is refused
+-- (RFC 8017, appendix A.2.3). Test: `PSS, no salt`, `PSS, trailer field` of `read.txt`.
+-- The hash of RSASSA-PSS is one of SHA-2 or SHA-3: SHA-1 is refused (RFC 8017, appendix A.2.3). Test: `PSS with SHA-1` of `read.txt`.
 abbrev pub pss_row : RsassaPssParams → PssRow
 pss_row v = (v.hash_algorithm, (v.mask_gen_algorithm, (v.salt_length, tt)))
 

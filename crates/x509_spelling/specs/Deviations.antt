@@ -20,8 +20,10 @@ pub data Deviation : Type 0 where
   -- Where any algorithm is read (RawAlgorithmIdentifier), its parameters may be missing: that is counted, and NULL is written (RFC
   -- 5280, section 4.1.1.2). Test: `no parameters beside an algorithm of which nothing`.
   raw_parameters_missing : Deviation
-  -- The parameters NULL of a hash may be missing in a DigestInfo and in RSASSA-PSS: that is read and counted (RFC 8017, appendix
-  -- A.2.4; RFC 4055, section 2.1). Test: `no NULL beside the hash of a digest, or of RSASSA-PSS`.
+  -- The parameters NULL of a hash may be missing in a DigestInfo: that is read and counted (RFC 8017, appendix A.2.4). Test:
+  -- `no NULL beside the hash of a digest, or of RSASSA-PSS`.
+  -- The parameters NULL of a hash may be missing in RSASSA-PSS: that is read and counted (RFC 4055, section 2.1). Test:
+  -- `no NULL beside the hash of a digest, or of RSASSA-PSS`.
   hash_parameters_missing : Deviation
   -- The fields of an authority key identifier may be in another order than that of their tags: it counts once (RFC 5280, section
   -- 4.2.1.1). Test: `fields of an authority key identifier out of order`.
