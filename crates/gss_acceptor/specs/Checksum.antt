@@ -12,8 +12,8 @@ use Rattle.gss_acceptor.specs.declared.refusal.AcceptRefusal.{AcceptRefusal}
 use Rattle.gss_acceptor.specs.declared.refusal.AcceptRefusal.TheVariants.{NoChecksum, OtherBindings, OtherChecksum}
 
 -- what a checksum's octets say
--- Not judged: the flags, which the caller gets, and the octets after the flags, as those of a delegation (RFC 4121, sections 4.1.1.1 and
--- 4.1.1.2). Test: `Octets after the flags, which aren't read.`.
+-- Not judged: the flags, which the caller gets, and the octets after the flags, as those of a delegation (RFC 4121, sections 4.1.1 and
+-- 4.1.1.1). Test: `Octets after the flags, which aren't read.`.
 abbrev pub initial_sum : Bytes → Result InitialChecksum AcceptRefusal
 initial_sum octets =
     -- The checksum has 24 octets or more, and its first field, the length of the channel bindings, is 16 (RFC 4121, section 4.1.1).

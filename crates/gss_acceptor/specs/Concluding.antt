@@ -88,8 +88,9 @@ Demands established supported list result =
 abbrev pub IsConcludedWithout : EstablishedRecord → Option Mechanism → Terms → Result Accepted AcceptRefusal → Type 0
 IsConcludedWithout established supported terms result =
     MatchBool terms.required
-    -- Where MICs are due and the acceptor sends no AP-REP, the initiator's MIC comes with its token. Else it may come after the acceptor's,
-    -- whose answer has the state accept-incomplete (RFC 4178, section 5). Test: `Wrong MICs: of another list,`, `With an AP-REP`.
+    -- Where MICs are due and the acceptor sends no AP-REP, the initiator's MIC comes with its token. Where they are due and it sends one,
+    -- the MIC may come after the acceptor's, whose answer has the state accept-incomplete (RFC 4178, section 5).
+    -- Test: `Wrong MICs: of another list,`, `With an AP-REP`.
     (MatchBool (is_some established.reply) (Demands established supported terms.list result) (result ≡ Err NoMic))
     (IsGiven (completed established supported None) result)
 

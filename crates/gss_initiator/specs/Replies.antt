@@ -89,7 +89,8 @@ by_error token =
 -- the part of the AP-REP in a token
 unfoldable pub answered : ApAskedRecord → Bytes → Table Part
 answered asked token =
-    -- The acceptor's token is that of an AP-REP, with the token id 02 00, or of a KRB-ERROR (RFC 4121, section 4.1). Test: `take ok`.
+    -- The acceptor's token is that of an AP-REP, with the token id 02 00, or of a KRB-ERROR (RFC 4121, section 4.1). Test: `take ok`,
+    -- `take Refused(37)`, `take NotAToken`.
     ask (IsTokenOf ap_rep_front token) (sole_reply token) (by_error token) (replied asked)
 
 -- the context that the token makes of a pending one

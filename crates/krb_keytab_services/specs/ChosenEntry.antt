@@ -37,8 +37,8 @@ no_entry = record { realm = []; components = []; suite = Aes256CtsHmacSha196; ke
 -- The entry of a keytab by which a request is judged whose ticket has this enc-part.
 unfoldable pub chosen : List EntryRecord → EncryptedData → EntryRecord
 chosen entries encrypted =
-    -- It is the first that fits the ticket (RFC 4120, section 3.2.3). Test: `old key`, `new key`, `no kvno`, `second suite` of
-    -- `keytab_rows.txt`.
+    -- The entry by which a request is judged is the first that fits its ticket (RFC 4120, section 3.2.3). Test: `old key`, `new key`,
+    -- `no kvno`, `second suite` of `keytab_rows.txt`.
     unwrap_or (find (is_fitting encrypted) entries)
     -- Where none fits, it is the first of the ticket's kvno, or else the first of all (RFC 4120, section 3.2.3). Test:
     -- `other etype of the second kvno`, `unknown kvno` of `keytab_rows.txt`.

@@ -48,8 +48,7 @@ secret_at document = secret_of (get_member (field_name Password) document) (get_
 
 -- the account that a table writes, or the first of its faults
 abbrev pub account_of : Members → Result WrittenAccount TableFault
--- Of an account's faults the first counts: an unknown key, the name, the suite, the secret. Test: `unknown key "pasword"`, `no name`,
--- `unknown suite` of `files.txt`.
+-- Of an account's faults the first counts: an unknown key, the name, the suite, the secret. Test: `unknown key "pasword"` of `files.txt`.
 account_of document =
     only account_fields document >>= (λ _. name_at document >>= (λ name. suite_at document >>= (λ suite.
     secret_at document >>= (λ secret. Ok (record { name = name; suite = suite; secret = secret })))))

@@ -65,7 +65,7 @@ AreSized n (b ∷ bs) = IsSized n b × AreSized n bs
 -- `structure_example` of `pac.rt`.
 -- The content of a buffer has cbBufferSize octets, and begins at its Offset from the PAC's first octet (MS-PAC, section 2.4). Test:
 -- `structure_example` of `pac.rt`.
--- Not judged: the signatures and the contents. No test: the contract alone covers it.
+-- Not judged: the signatures and the contents. Test: `read_and_written` of `pac.rt`.
 pub record IsPac (bs : List Buffer) (whole : List ℕ) : Type 0 where
   pub parts : IsLaidOut (pac_parts bs) whole
   pub sized : AreSized (length whole) bs

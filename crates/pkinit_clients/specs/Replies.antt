@@ -70,7 +70,7 @@ signed_in (EncKeyPack pack) = None
 -- Test: `a@R, key expiration there` of `pkinit_steps.txt`.
 abbrev pub of_key_info : KeysRecord → PkinitAskedRecord → KdcDhKeyInfo → Table Secret
 of_key_info keys asked info =
-    -- The nonce of KDCDHKeyInfo is the request's (RFC 4556, section 3.2.4).
+    -- The nonce of KDCDHKeyInfo is the request's (RFC 4556, section 3.2.3.1).
     -- Test: `a@R, PKAuthenticator's nonce is another`, `e@R, nonce modulo 2^32` of `pkinit_steps.txt`.
     refuse (not (is_number asked.nonce info.nonce.0)) NotTrusted
     -- The client's key agreement has a secret for subjectPublicKey (RFC 4556, section 3.2.3.1).
