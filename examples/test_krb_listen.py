@@ -438,6 +438,19 @@ class Ends(Case):
             self.assertEqual(len(re.findall(r"worker \d+: input ended\n", self.read_log())), 2)
             self.assertNotIn("Traceback", self.read_log())
 
+    def test_workers_that_dont_end(self):
+        command = [sys.executable, "-c", "import os, time; os.write(2, b'there\\n'); time.sleep(60)"]
+        self.start("--workers", "4", limits="END=3", command=command)
+        self.wait_for(r"(?s)(there\n.*){4}")
+        workers = self.workers()
+        self.assertEqual(len(workers), 4)
+        begin = time.monotonic()
+        self.process.terminate()
+        self.assertEqual(self.process.wait(20), 0)
+        self.assertTrue(2.9 < time.monotonic() - begin < 10)
+        for worker in workers:
+            self.assertFalse(os.path.exists(f"/proc/{worker}"))
+
     def test_port_is_free_after_the_end(self):
         self.start()
         self.is_served()
