@@ -6,10 +6,10 @@ use anyhow::{Context as _, bail};
 use byte_streams::{Sink, Source, read_full};
 use gss_acceptor::{Accepted, Acceptor, Continuation, Established, Negotiation};
 use gss_contexts::Context;
-use krb_clock::after_epoch;
+use krb_clock::now;
 use krb_time::Moment;
 use std::alloc::Global;
-use std::time::{Clock, SystemTime, UNIX_EPOCH};
+use std::time::Clock;
 
 /// How many random octets each token of a login takes.
 const WORDS: usize = 64;
@@ -74,12 +74,10 @@ impl<K: Source + Drop> Server<K> {
 
 // The moment now, or none where the clock fails.
 fn moment_at<C: Clock>(clock: &C, time: Time) -> Option<Moment> {
-    if let Time::Fixed(moment) = time {
-        return Some(moment);
+    match time {
+        Time::Now => now(clock),
+        Time::Fixed(moment) => Some(moment),
     }
-    let now = SystemTime::now(clock).ok()?;
-    let elapsed = now.duration_since(UNIX_EPOCH).ok()?;
-    after_epoch(elapsed.as_secs(), elapsed.subsec_micros())
 }
 
 /// Serves the contexts of a stream, up to its end or the first refusal. A stream has to have a login.

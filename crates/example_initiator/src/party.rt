@@ -1,7 +1,7 @@
 //! The client of a credential cache, with its credential for the service.
 
 use crate::arguments::Asked;
-use krb_client::{Client, Credential, TicketTimes};
+use krb_client::{AskRefusal, Client, Credential, TicketTimes};
 use krb_clock::after_epoch;
 use krb_commands::{Stop, octets_of, refused};
 use krb_credential_caches::{
@@ -59,7 +59,11 @@ fn party_of(alloc: Global, cache: &CredentialCache, asked: &Asked<'_>) -> Result
 fn client_of(alloc: Global, principal: &CachePrincipal) -> Result<Option<Client>, AllocError> {
     let name = octets_of_all(alloc, &principal.components)?;
     let suite = CipherSuite::Aes256CtsHmacSha196;
-    Ok(Client::new(alloc, principal.realm.as_bytes(), &name, suite).ok())
+    match Client::new(alloc, principal.realm.as_bytes(), &name, suite) {
+        Ok(client) => Ok(Some(client)),
+        Err(AskRefusal::Memory) => Err(AllocError),
+        Err(_) => Ok(None),
+    }
 }
 
 fn octets_of_all(
