@@ -34,7 +34,7 @@ imports: ## test examples/mit_accounts, which reads keytabs of MIT's realms: ten
 check: crate-named ## prove one crate and what it stands on: make check CRATE=krb_tgs
 	cd crates/$(CRATE) && $(RT) check
 
-gate: ## prove everything from nothing, try the wrong bodies, run each test and program
+gate: ## prove what hasn't passed on this machine, try the wrong bodies, run each test and program
 	$(RT) ci
 
 faults: ## refuse memory to the built programs, request by request, send the program damaged requests, and fail krb_login at each system call
