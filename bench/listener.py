@@ -6,7 +6,7 @@ usage: listener.py cost|flood|all [COMMAND ARGUMENT..]     COMMAND answers frame
 import collections, contextlib, itertools, multiprocessing, os, random, selectors, shutil, socket, statistics
 import subprocess, sys, tempfile, threading, time
 
-import kdc
+import kdc, replies
 
 TOP = os.path.dirname(os.path.dirname(os.path.abspath(__file__)))
 HOST = "127.0.0.1"
@@ -83,9 +83,21 @@ def used(process):
         return sum(sum(kdc.processor_seconds(number)) for number in [process, *map(int, it.read().split())])
 
 
+NONCE = bytes.fromhex("02040100 0000")  # of four octets, so that requests can be numbered
+
+
 def request():
+    """The recorded request, with this nonce."""
     with open(RECORDED, "rb") as it:
-        return it.read()[4:]
+        octets = it.read()[4:]
+
+    def joined(fields):
+        return replies.element(0x30, b"".join(replies.element(*it) for it in fields))
+
+    body = replies.elements(replies.within(octets, replies.AS_REQ, 0x30, 0xA4, 0x30))
+    numbered = joined((first, NONCE if first == 0xA7 else content) for first, content in body)
+    fields = replies.elements(replies.within(octets, replies.AS_REQ, 0x30))
+    return replies.element(replies.AS_REQ, joined((first, numbered if first == 0xA4 else content) for first, content in fields))
 
 
 def reply_of(stream):
@@ -155,16 +167,17 @@ def stock_costs(folder):
 
 
 def cost(folder, command):
-    asked = request()
+    requests = kdc.numbered(request(), max(CLIENTS * OF_EACH, *EXCHANGES.values()))  # each another one: krb_listen keeps replies
     with listening(folder, command) as (process, port):
-        udp = measure("krb_listen, UDP", process, [asked] * EXCHANGES["UDP"], asking_udp(port))
-        tcp = measure("krb_listen, TCP", process, [asked] * EXCHANGES["TCP"], lambda it: over_tcp(port, it))
+        udp = measure("krb_listen, UDP", process, requests[: EXCHANGES["UDP"]], asking_udp(port))
+    with listening(folder, command) as (process, port):
+        tcp = measure("krb_listen, TCP", process, requests[: EXCHANGES["TCP"]], lambda it: over_tcp(port, it))
     if has_stock():
         stock = stock_costs(folder)
         parts = f"UDP {udp.cost / stock[0].cost:.2f}, TCP {tcp.cost / stock[1].cost:.2f}"
         print(f"in parts of krb5kdc's: {parts}. A stub's reply takes no cryptography", flush=True)
     with listening(folder, command) as (process, port):
-        many("krb_listen", folder, process, port, [asked] * (CLIENTS * OF_EACH))
+        many("krb_listen", folder, process, port, requests[: CLIENTS * OF_EACH])
 
 
 def has_stock():
