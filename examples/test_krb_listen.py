@@ -923,7 +923,7 @@ class Connect(unittest.TestCase):
 
     def test_first_that_answers(self):
         self.assertEqual(self.ask(self.kdc(self.reply)), (0, "", ""))
-        status, _, said = self.ask("127.0.0.1:1", self.kdc(lambda stream: None), self.kdc(self.reply))
+        status, _, said = self.ask("127.0.0.1:1", self.kdc(lambda stream: stream.recv(99)), self.kdc(self.reply))
         self.assertEqual(status, 0)
         self.assertRegex(said, "^krb_connect: 127.0.0.1:1: .*refused.*\nkrb_connect: 127.0.0.1:.*: .*expected a whole reply\n$")
 
