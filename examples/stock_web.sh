@@ -56,6 +56,7 @@ CONF
     } >"$work/web.conf"
     web_environment="KRB5RCACHEDIR=$work/web_replays KRB5_CONFIG=$1 TZ=UTC"
     env $web_environment "$apache" -t -f "$work/web.conf" -c "Listen 127.0.0.1:8799" >"$work/said" 2>&1 || { cat "$work/said" >&2 && exit 2; }
-    listen env $web_environment "$apache" -DFOREGROUND -f "$work/web.conf" -c "Listen 127.0.0.1:PORT"
+    # At its end Apache signals its process group, and with it the script: so it has a session of its own.
+    listen setsid env $web_environment "$apache" -DFOREGROUND -f "$work/web.conf" -c "Listen 127.0.0.1:PORT"
     web=$started web_port=$port
 }
