@@ -245,7 +245,7 @@ def stock_listening(environment, port, processors, processes):
         held.wait()
 
 
-LIMITS = {"UDP": 1.5, "TCP": 1.7}  # of the processor time of an exchange, in parts of krb5kdc's
+LIMITS = {"UDP": 1, "TCP": 1}  # of the processor time of an exchange, in parts of krb5kdc's
 AT_ONCE = "UDP at once"
 
 
@@ -318,8 +318,9 @@ def connecting(port, source):
     return it
 
 
-def flood(port, asked, net, count, told):
-    """So many connections at even pace, of 50 sources, with a request each: sends how many were answered, and in how long they began."""
+def flood(port, requests, net, told):
+    """A connection for each request, at even pace, of 50 sources: sends how many were answered, and in how long they began."""
+    count = len(requests)
     watched, begin, own, answered = selectors.DefaultSelector(), time.monotonic(), sources(net, 50), 0
     begun, took = 0, 0.0
     while begun < count or watched.get_map() and time.monotonic() < begin + 15:
@@ -329,7 +330,7 @@ def flood(port, asked, net, count, told):
         for key, event in watched.select(0.001):
             try:
                 if event == selectors.EVENT_WRITE:
-                    key.fileobj.send(kdc.framed(asked))
+                    key.fileobj.send(kdc.framed(requests.pop()))
                     watched.modify(key.fileobj, selectors.EVENT_READ)
                     continue
                 answered += len(key.fileobj.recv(65536)) > 4
@@ -355,9 +356,11 @@ def break_frames(port, over):
             held.popleft().close()
 
 
-def ask_honestly(ask, asked, over, seconds):
+def ask_honestly(ask, requests, over, seconds):
     """Asks each 20 milliseconds; keeps the seconds of each answer, or None where there was none in time."""
-    while not over.wait(0.02):
+    for asked in requests:
+        if over.wait(0.02):
+            return
         began = time.monotonic()
         try:
             seconds.append(time.monotonic() - began if ask(asked) else None)
@@ -366,23 +369,23 @@ def ask_honestly(ask, asked, over, seconds):
 
 
 def play_hostile(folder, command, asked):
-    over, honest = threading.Event(), {"UDP": [], "TCP": []}
+    over, honest, requests = threading.Event(), {"UDP": [], "TCP": []}, kdc.numbered(asked, 3 * CONNECTIONS)  # each is another one
     with listening(folder, command) as (process, port):
         silent = [connecting(port, it) for it in sources(8, 40) * 13][:SILENT]
         ways = {"UDP": asking_udp(port, PATIENCE), "TCP": lambda it: over_tcp(port, it, seconds=PATIENCE)}
-        threads = [threading.Thread(target=ask_honestly, args=(ways[it], asked, over, honest[it])) for it in ways]
+        threads = [threading.Thread(target=ask_honestly, args=(ways[it], requests[at + 1 :: 3], over, honest[it])) for at, it in enumerate(ways)]
         threads.append(threading.Thread(target=break_frames, args=(port, over)))
         for it in threads:
             it.start()
         time.sleep(1)
         pipes, before = [multiprocessing.Pipe() for _ in range(4)], used(process)
-        each = CONNECTIONS // len(pipes)
-        floods = [multiprocessing.Process(target=flood, args=(port, asked, net, each, it[1])) for net, it in enumerate(pipes, 1)]
+        of_floods = requests[::3]
+        floods = [multiprocessing.Process(target=flood, args=(port, of_floods[net :: len(pipes)], net + 1, it[1])) for net, it in enumerate(pipes)]
         for it in floods:
             it.start()
         told = [it[0].recv() for it in pipes]
         spent = used(process) - before
-        time.sleep(11 - SECONDS)  # the silent ones are closed in this time
+        time.sleep(13 - SECONDS)  # the silent ones are taken after a second, and closed in this time
         over.set()
         for it in threads + floods:
             it.join()

@@ -685,7 +685,8 @@ class Log(Case):
             for number in range(3000):
                 datagrams.send(b"say %d %b" % (number, b"x" * 200))
                 datagrams.recv(65536)
-            ours.close(), other.close()
+            ours.close()
+            other.close()
             self.end()
 
     def test_file_is_opened_again(self):
@@ -701,8 +702,9 @@ class Log(Case):
             self.assertLess(time.monotonic(), until)
             time.sleep(0.05)
         self.ask_udp(b"say three")
-        said = [open(it, encoding="ascii").read() for it in (path + ".1", path)]
-        self.assertEqual([re.findall(" udp (.*)\n", it) for it in said], [["one", "two"], ["three"]])
+        for name, lines in (path + ".1", ["one", "two"]), (path, ["three"]):
+            with open(name, encoding="ascii") as it:
+                self.assertEqual(re.findall(" udp (.*)\n", it.read()), lines)
         self.assertEqual(stat.S_IMODE(os.stat(path).st_mode) & 0o137, 0)
         os.rename(folder, folder + ".away")
         self.addCleanup(os.rename, folder + ".away", folder)
