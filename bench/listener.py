@@ -373,14 +373,14 @@ def play_hostile(folder, command, asked):
     with listening(folder, command) as (process, port):
         silent = [connecting(port, it) for it in sources(8, 40) * 13][:SILENT]
         ways = {"UDP": asking_udp(port, PATIENCE), "TCP": lambda it: over_tcp(port, it, seconds=PATIENCE)}
-        threads = [threading.Thread(target=ask_honestly, args=(ways[it], requests[at + 1 :: 3], over, honest[it])) for at, it in enumerate(ways)]
+        threads = [threading.Thread(target=ask_honestly, args=(ways[it], requests[at :: 3], over, honest[it])) for at, it in enumerate(ways, 1)]
         threads.append(threading.Thread(target=break_frames, args=(port, over)))
         for it in threads:
             it.start()
         time.sleep(1)
         pipes, before = [multiprocessing.Pipe() for _ in range(4)], used(process)
-        of_floods = requests[::3]
-        floods = [multiprocessing.Process(target=flood, args=(port, of_floods[net :: len(pipes)], net + 1, it[1])) for net, it in enumerate(pipes)]
+        of_floods = [requests[::3][net :: len(pipes)] for net in range(len(pipes))]
+        floods = [multiprocessing.Process(target=flood, args=(port, of_floods[net - 1], net, it[1])) for net, it in enumerate(pipes, 1)]
         for it in floods:
             it.start()
         told = [it[0].recv() for it in pipes]

@@ -84,7 +84,8 @@ def same_request():
         ask = asking_udp(it.port)
         right = sum(ask(asked) == asked for _ in range(100)) + sum(over_tcp(it.port, asked) == asked for _ in range(100))
         spent, took = listener.used(it.process.pid) - before, time.monotonic() - began
-        print(f"  {right} of 200 answered in {took:.2f} seconds, with {spent * 1e3:.0f} milliseconds of processor; a worker was asked {it.asked()} times")
+        print(f"  {right} of 200 answered in {took:.2f} seconds, with {spent * 1e3:.0f} milliseconds of processor; "
+              f"a worker was asked {it.asked()} times")
         if right < 200 or it.asked() > 2 + took:
             return "a worker was asked more than once in two seconds"
 

@@ -734,7 +734,8 @@ class Ends(Case):
             self.assertEqual(datagrams.recv(65536), b"sleep 1.50")
             self.assertEqual((answer(stream), answer(idle)), (None, None))
             self.assertEqual(self.process.wait(20), 0)
-            self.assertEqual(len(re.findall(r"worker \d+: input ended\n", self.read_log())), 1)  # of both: what idle workers say is logged once
+            # What idle workers say is logged once.
+            self.assertEqual(len(re.findall(r"worker \d+: input ended\n", self.read_log())), 1)
             self.assertNotIn("Traceback", self.read_log())
 
     def test_workers_that_dont_end(self):
@@ -917,7 +918,7 @@ class Connect(unittest.TestCase):
         self.assertEqual(self.run_with("--version"), (0, f"krb_connect {krb_listen.VERSION}\n", ""))
 
     def test_arguments(self):
-        for words in ((), ("--", "cat"), ("127.0.0.1", "--"), ("--seconds", "x", "127.0.0.1", "--", "cat"), ("--seconds", "0", "h", "--", "cat"),
+        for words in ((), ("--", "cat"), ("h", "--"), ("--seconds", "x", "h", "--", "cat"), ("--seconds", "0", "h", "--", "cat"),
                       ("--other", "h", "--", "cat")):
             status, said, line = self.run_with(*words)
             self.assertEqual((status, said, line.count("\n")), (2, "", 1), words)
