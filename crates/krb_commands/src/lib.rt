@@ -27,6 +27,6 @@ pub use arguments::{Given, arguments_of, given_of, is_word, principal_in};
 pub use files::{NewFile, begin, begin_first, write_file};
 pub use kinds::{ACCOUNTS_LIMIT, FileKind, KEYS_LIMIT, SMALL_LIMIT};
 pub use output::print_line;
-pub use printable::{Printable, PrintableName};
+pub use printable::{Printable, PrintableName, printable_of};
 pub use reading::{is_there, keytab_in, octets_of};
 pub use stop::{Stop, failed, refused, usage};
