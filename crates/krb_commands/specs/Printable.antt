@@ -37,7 +37,7 @@ components_text [] = []
 components_text (component ∷ components) = part_text component ++ flat_map (λ further. 47 ∷ part_text further) components
 
 -- A name in its realm is `host/server@REALM`, as RFC 1964 has it (section 2.1.3), with each further octet that isn't printable by its two
--- digits. Test: `names` of `printable.rt`.
+-- digits.
 abbrev pub printable_name : List (List ℕ) → List ℕ → List ℕ
 printable_name components realm = components_text components ++ 64 ∷ part_text realm
 

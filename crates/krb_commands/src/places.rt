@@ -96,3 +96,29 @@ pub(crate) fn unwritten(alloc: Global, path: &str, fault: io::Error) -> Stop {
         _ => failed(alloc, format_args!("{path} can't be written: {fault}")),
     }
 }
+
+#[cfg(test)]
+mod tests {
+    use super::*;
+
+    fn leads_to(alloc: Global, link: &str, target: &str, place: &str) -> bool {
+        match joined(alloc, link, target) {
+            Ok(path) => path.as_str() == place,
+            Err(_) => false,
+        }
+    }
+
+    #[test]
+    fn links(rt: HostRuntime) {
+        assert!(rt; leads_to(rt.alloc(), "a/link", "accounts", "a/accounts"));
+        assert!(rt; leads_to(rt.alloc(), "a/link", "../accounts", "a/../accounts"));
+        assert!(rt; leads_to(rt.alloc(), "a/link", "/accounts", "/accounts"));
+        assert!(rt; leads_to(rt.alloc(), "/link", "accounts", "/accounts"));
+        assert!(rt; leads_to(rt.alloc(), "link", "accounts", "accounts"));
+        assert!(rt;
+            folder_of("/accounts") == "/"
+                && folder_of("accounts") == "."
+                && folder_of("a/b/c") == "a/b"
+        );
+    }
+}
