@@ -53,7 +53,7 @@ class Ended:
             self.lines = ran.stderr.decode(errors="replace").splitlines()
             with open(os.path.join(folder, "cache"), "rb") as it:
                 self.cache = it.read()
-            self.is_left = os.path.exists(os.path.join(folder, "cache.new"))
+            self.is_left = any(name.endswith(".new") for name in os.listdir(folder))
             self.mode = os.stat(os.path.join(folder, "cache")).st_mode & 0o777
 
     def fault(self, new, may_be_left=False):
@@ -61,7 +61,7 @@ class Ended:
         if self.cache not in (OLD, new):
             return f"the cache is neither the old one nor the new one, status {self.status}"
         if self.is_left and not may_be_left:
-            return "cache.new was left"
+            return "a new file was left"
         if self.status == 0 and self.cache != new:
             return "status 0 with the old cache"
         if may_be_left or self.status == 127 and self.lines and OF_LOADER.match(self.lines[0]):
@@ -194,7 +194,7 @@ def refusals(program):
         (certified("password"), 1, f"password: the file is text that has no BEGIN line of what is asked for: {wanted}"),
         ([*cache, *password, "-r", "missing", *user], 2, "missing can't be read: "),
         ([*cache, *password, "-r", "/dev/null", *user], 2, "/dev/null: expected 96 random octets for each request"),
-        (["-c", "missing/cache", *ARGUMENTS[2:]], 2, "missing/cache.new can't be made: "),
+        (["-c", "missing/cache", *ARGUMENTS[2:]], 2, "missing/cache can't be written: "),
     ]
     faults, texts = [], []
     for words, status, line in rows:

@@ -1,12 +1,12 @@
 //! A login, from its arguments to the cache.
 
-use crate::arguments::{Login, Means};
+use crate::arguments::{KeyFile, Login, Means, Settings};
 use crate::certified::{Certified, certified_in};
 use crate::exchange::{ask_for_service, authenticate_by_certificate, authenticate_by_key};
 use crate::kdc::Kdc;
 use crate::secret::{Secret, secret_of};
 use krb_client::Credential;
-use krb_commands::{Stop, refused, write_file};
+use krb_commands::{FileKind, Stop, refused, write_file};
 use krb_credential_caches::CacheWriteFault;
 use krb_login_caches::cache_of;
 use std::alloc::Global;
@@ -51,7 +51,23 @@ fn log_in_with(
     let further = tickets(rt.alloc(), kdc, login, granting)?;
     let octets = cached(rt.alloc(), login, granting, &further);
     drop(further);
-    write_file(rt, login.settings.cache, &octets?)
+    let settings = &login.settings;
+    write_file(
+        rt,
+        settings.cache,
+        FileKind::Cache,
+        &files_read(settings),
+        &octets?,
+    )
+}
+
+// The paths of the files that a login reads.
+fn files_read<'a>(settings: &Settings<'a>) -> [&'a str; 4] {
+    let words = settings.words;
+    match settings.means {
+        Means::Key(KeyFile::Keytab(path) | KeyFile::Password(path)) => [path, path, path, words],
+        Means::Certificate(files) => [files.certificate, files.key, files.anchor, words],
+    }
 }
 
 // A ticket for each service, in their order.
