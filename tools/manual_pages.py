@@ -13,6 +13,8 @@ from programs import PROGRAMS, SCRIPTS, TOP, crates, files_of, version
 
 USAGE = re.compile(r'const USAGE: &str = "((?:[^"\\]|\\.)*)";', re.S)
 ESCAPES = {r"\n": "\n", r"\"": '"', r"\\": "\\"}
+GAP = re.compile(r"(?<=\S) {2,}(?=\S)")  # between a word of the help and what it is
+LEAST_COLUMN = 10  # of what a word is
 WIDTH = 76  # columns of a line of the page's source
 ROFF = str.maketrans({"\\": r"\e", "-": r"\-", "'": r"\(aq", '"': r"\(dq", "^": r"\(ha", "~": r"\(ti", "`": r"\(ga"})
 
@@ -43,31 +45,37 @@ def usage_of(crate):
 
 
 class Help:
-    """The lines of a help: how the program is called, its items (a word and what it is), and the text between them."""
+    """The lines of a help: how the program is called, and its items (a word, and lines of what it is) with the text between them."""
 
     def __init__(self, text):
-        self.calls, self.parts, self.is_usage = [], [], True
-        for line in text.removeprefix("usage:").split("\n"):
-            self.take(line)
+        lines = list(filter(str.strip, text.removeprefix("usage:").split("\n")))
+        columns = [it.end() for it in map(GAP.search, lines) if it]
+        self.column, self.parts = max(columns, key=columns.count, default=len(text)), []
+        for line, next_ in zip(lines, [*lines[1:], ""]):
+            self.take(line, next_.startswith(" " * LEAST_COLUMN))
+        texts = [at for at, (term, _) in enumerate(self.parts) if not term]
+        front = self.parts[: texts[0]] if texts else self.parts
+        self.calls = [call for term, _ in front for call in re.split(r"(?:, | \| )(?=krb_\w+ --)", term)]
+        self.parts = [(term, said) for term, said in self.parts if said]
 
-    def take(self, line):
+    def take(self, line, goes_on):
         indent = len(line) - len(line.lstrip())
-        term, _, said = line.strip().partition("  ")
-        if not term:
-            return
-        if not self.is_usage and indent == 0:
-            self.parts.append(("", [line])) if not self.parts or self.parts[-1][0] else self.parts[-1][1].append(line)
-        elif indent > 10 and not said and self.parts:  # goes on with what the item above says
-            self.parts[-1][1].append(term)
-        elif self.is_usage and (indent or not self.calls):
-            self.calls += [it.strip() for it in re.split(r"(?:, | \| )(?=krb_\w+ --)", term)]
-            self.parts += [(term, [said.strip()])] if said else []
+        if indent >= LEAST_COLUMN:  # goes on with what the item above it is
+            self.parts[-1][1].append(line.strip())
         elif indent:
-            self.parts.append((term, [said.strip()]))
+            term, said = self.divided(line, goes_on)
+            self.parts.append((term.strip(), [said.strip()] if said.strip() else []))
+        elif self.parts and not self.parts[-1][0]:
+            self.parts[-1][1].append(line)
         else:
-            self.is_usage = False
             self.parts.append(("", [line]))
-        self.is_usage = self.is_usage and (indent > 0 or len(self.calls) < 2)
+
+    def divided(self, line, goes_on):
+        """A word, and what it is: behind two blanks, or behind one in the column of the others, or in the next line."""
+        if gap := GAP.search(line):
+            return line[: gap.start()], line[gap.end() :]
+        is_full = line[self.column - 1 : self.column] == " " and not goes_on
+        return (line[: self.column], line[self.column :]) if is_full else (line, "")
 
 
 def escaped(text):

@@ -7,7 +7,7 @@ import os, pty, re, select, shutil, signal, socket, stat, subprocess, sys, tempf
 
 TOP = os.path.dirname(os.path.dirname(os.path.realpath(__file__)))
 sys.path.insert(0, f"{TOP}/tools")
-from manual_pages import page_of, source_of
+from manual_pages import Help, page_of, source_of
 from programs import PROGRAMS, SCRIPTS
 
 STARTS = ("krb_accounts", "krb_keytab", "krb_login", "krb_realm")
@@ -219,7 +219,7 @@ class Install(Copy):
         for unit in files_below(f"{root}/lib/systemd/system"):
             text = text_of(f"{root}/lib/systemd/system/{unit}")
             self.assertNotIn("/usr/local", text)
-            for path in re.findall(r"/opt/krb/[\w/]+/krb_\w+", text):
+            for path in re.findall(r"/opt/krb/[\w/]+/(?:krb_\w+|RUNNING\.md)", text):
                 self.assertTrue(os.path.isfile(f"{place}{path}"), path)
         self.make("uninstall", "PREFIX=/opt/krb", f"DESTDIR={place}")
         self.assertEqual(os.listdir(root), [])
@@ -300,6 +300,25 @@ class Pages(unittest.TestCase):
             described, usage = source_of(name)
             left_out = {"usage", "the", "program"}
             self.assertLessEqual(set(IN_WORDS.findall((" ".join(described) + usage).lower())) - left_out, there, name)
+
+    def test_items_of_a_help(self):
+        text = """usage:
+  krb_x make [-k random] TEXT NAME
+                              makes TEXT
+  krb_x list TEXT             prints names, and
+                              kvnos
+  krb_x add [-k [random]] TEX adds it
+  krb_x -h, krb_x --version
+TEXT is a file.
+It is whole.
+  -k KEY   a key
+"""
+        help_ = Help(text)
+        self.assertEqual(help_.calls[1:], ["krb_x list TEXT", "krb_x add [-k [random]] TEX", "krb_x -h", "krb_x --version"])
+        self.assertEqual([(term, " ".join(said)) for term, said in help_.parts], [
+            ("krb_x make [-k random] TEXT NAME", "makes TEXT"), ("krb_x list TEXT", "prints names, and kvnos"),
+            ("krb_x add [-k [random]] TEX", "adds it"), ("", "TEXT is a file. It is whole."), ("-k KEY", "a key"),
+        ])
 
     def test_sections_and_options(self):
         for name in self.NAMES:
