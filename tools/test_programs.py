@@ -216,8 +216,9 @@ class Install(Copy):
             self.assertEqual(stat.S_IMODE(os.stat(f"{root}/{name}").st_mode), 0o755)
         for name in "sbin/krb_realm", "sbin/krb_realm_check", "share/man/man8/krb_kdcd.8", "share/man/man1/krb_login.1":
             self.assertTrue(os.path.isfile(f"{root}/{name}"))
-        for unit in files_below(f"{root}/lib/systemd/system"):
-            text = text_of(f"{root}/lib/systemd/system/{unit}")
+        units = [f"lib/systemd/system/{it}" for it in files_below(f"{root}/lib/systemd/system")]
+        for name in [*units, "libexec/sukvort/krb_realm_inetd", "share/doc/sukvort/examples/inetd.conf"]:
+            text = text_of(f"{root}/{name}")
             self.assertNotIn("/usr/local", text)
             for path in re.findall(r"/opt/krb/[\w/]+/(?:krb_\w+|RUNNING\.md)", text):
                 self.assertTrue(os.path.isfile(f"{place}{path}"), path)
@@ -264,6 +265,12 @@ class Install(Copy):
         self.make("build")
         wrote, said = self.make("build", REFUSED="krb_kdcd")
         self.assertEqual((wrote, said), ([], []))
+
+    def test_what_make_test_says_before_it_starts(self):
+        for words, runs in ("krb_tgs", r"\d+ runs"), ("test_der", "1 run"):
+            wrote, _ = self.make("test", f"CRATE={words}", status=2)  # the stub runs no tests
+            how = rf"^test: {runs}, \d at once, some \d+ processor minutes: 0 as measured here, \d+ by their lines of source$"
+            self.assertRegex(wrote[0], how)
 
     def test_without_the_kit(self):
         os.remove(f"{self.folder}/bin/rt")
