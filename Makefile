@@ -1,28 +1,31 @@
 # The one entry to this repository. `make help` lists what there is; README.md has the time that each takes.
-# The kit's command `rt` must be on the path.
+# The kit's command `rt` must be on the path for most: README.md, 'What it needs'.
 
 RT ?= rt
 BENCH ?= as_exchange
 PORT ?= 8888
+PREFIX ?= /usr/local
+# The limit of a run without proof: on a busy machine it takes several times its processor seconds.
+TRY := $(RT) try --seconds 3600
 CRATES := $(sort $(notdir $(patsubst %/src,%,$(wildcard crates/*/src))))
 REALM := out/realm
 
 .DEFAULT_GOAL := help
-.PHONY: help try messages certificate test listener imports check gate faults settings run clients move logins pkinit gss initiator bench plant fmt docs budget crate-named bridge-there
+.PHONY: help try messages certificate test listener imports programs check gate faults settings build install uninstall run clients move logins pkinit gss initiator services bench plant fmt docs budget crate-named kit-there bridge-there
 
 help: ## list the targets
 	@sed -n 's/^\([a-z]*\):[^#]*## /\1\t/p' Makefile | expand -t 14
 
-try: ## run a recorded request, and logins by password and by certificate, without proof: some minutes
-	cd crates/example_login && $(RT) try $(foreach file,$(notdir $(wildcard crates/example_login/data/*.pem crates/example_login/data/*.key)),--data $(file)=data/$(file)) </dev/null
+try: kit-there ## run a recorded request, and logins by password and by certificate, without proof: some minutes
+	cd crates/example_login && $(TRY) $(foreach file,$(notdir $(wildcard crates/example_login/data/*.pem crates/example_login/data/*.key)),--data $(file)=data/$(file)) </dev/null
 
-messages: ## read, change and write messages through picky_krb, without proof: one minute
-	cd crates/example_messages && $(RT) try </dev/null
+messages: kit-there ## read, change and write messages through picky_krb, without proof: one minute
+	cd crates/example_messages && $(TRY) </dev/null
 
-certificate: ## read a certificate, without proof: one minute
-	cd crates/example_certificate && $(RT) try --data certificate.der=data/certificate.der </dev/null
+certificate: kit-there ## read a certificate, without proof: one minute
+	cd crates/example_certificate && $(TRY) --data certificate.der=data/certificate.der </dev/null
 
-test: $(if $(CRATE),crate-named,listener imports) ## run every test and program without proof, or those of one crate: make test CRATE=test_der
+test: kit-there $(if $(CRATE),crate-named,listener imports programs) ## run every test and program without proof, or those of one crate: make test CRATE=test_der
 	RT="$(RT)" tools/test $(CRATE)
 
 listener: ## test examples/krb_listen before workers that are a stub: a minute
@@ -31,26 +34,39 @@ listener: ## test examples/krb_listen before workers that are a stub: a minute
 imports: ## test examples/mit_accounts, which reads keytabs of MIT's realms: ten seconds
 	python3 -B examples/test_mit_accounts.py
 
-check: crate-named ## prove one crate and what it stands on: make check CRATE=krb_tgs
+programs: ## test the start scripts, make install and the manual pages over programs that are stubs: ten seconds
+	python3 -B tools/test_programs.py
+
+check: kit-there crate-named ## prove one crate and what it stands on: make check CRATE=krb_tgs
 	cd crates/$(CRATE) && $(RT) check
 
-gate: ## prove what hasn't passed on this machine, try the wrong bodies, run each test and program
+gate: kit-there ## prove what hasn't passed on this machine, try the wrong bodies, run each test and program
 	$(RT) ci
 
-faults: ## refuse memory to the built programs, request by request, send the program damaged requests, and fail krb_login at each system call
+faults: kit-there ## refuse memory to the built programs, request by request, send the program damaged requests, and fail krb_login at each system call
 	bench/refused_growths.sh
 	bench/hostile.sh
 	bench/login_faults.sh
 
-settings: ## say what is wrong with a settings file, without proof: make settings FILE=examples/settings.toml
-	@test -f "$(FILE)" || { echo "make: name a file, as in make settings FILE=examples/settings.toml" >&2; exit 2; }
-	cd crates/krb_realm_check && $(RT) try --seconds 3600 --data $(notdir $(FILE))=$(abspath $(FILE)) -- $(notdir $(FILE)) </dev/null
+settings: kit-there ## say what is wrong with a settings file, without proof: make settings FILE=examples/settings.toml
+	@test -f "$$FILE" || { echo "make: name a file, as in make settings FILE=examples/settings.toml" >&2; exit 2; }
+	file=$$(realpath -- "$$FILE") && name=$$(basename -- "$$FILE") && cd crates/krb_realm_check && \
+		$(TRY) --data "$$name=$$file" -- "$$name" </dev/null
+
+build: ## prove and build the programs that are installed, or one, where they aren't built: make build PROGRAM=krb_login
+	@RT="$(RT)" tools/build $(PROGRAM)
+
+install: build ## install the programs, manual pages, units and documents: make install PREFIX=/usr/local DESTDIR=
+	@tools/install "$(PREFIX)" "$(DESTDIR)"
+
+uninstall: ## take away what make install installed: make uninstall PREFIX=/usr/local DESTDIR=
+	@tools/install --remove "$(PREFIX)" "$(DESTDIR)"
 
 run: bridge-there $(REALM)/settings.toml ## serve a realm to stock clients on 127.0.0.1 (PORT=8888); proves the program first
 	printf '%s\n' '[libdefaults]' 'default_realm = EXAMPLE.COM' 'dns_lookup_kdc = false' 'udp_preference_limit = 1' \
 		'dns_canonicalize_hostname = false' '[realms]' 'EXAMPLE.COM = {' 'kdc = 127.0.0.1:$(PORT)' '}' >$(REALM)/krb5.conf
-	RT="$(RT)" ./krb_realm </dev/null
-	@echo "Then, in another terminal: export KRB5_CONFIG=$(CURDIR)/$(REALM)/krb5.conf; kinit user"
+	@RT="$(RT)" tools/build krb_realm
+	@echo "Then, in another terminal: export KRB5_CONFIG='$(CURDIR)/$(REALM)/krb5.conf'; kinit user"
 	socat TCP-LISTEN:$(PORT),bind=127.0.0.1,fork,reuseaddr \
 		EXEC:"crates/krb_realmd/out/krb_realmd $(REALM)/settings.toml /dev/urandom now"
 
@@ -69,16 +85,19 @@ pkinit: ## log in with krb_login by certificate at MIT's krb5kdc, step by step
 gss: ## log in to the example acceptor with MIT's gss-client, step by step
 	examples/gss_clients.sh
 
+services: ## log in to sshd, Samba, OpenLDAP, PostgreSQL, Apache, Dovecot, SSSD and Java by tickets of krb_kdcd, as root, step by step
+	examples/stock_services.sh
+
 initiator: ## log in with the example initiator at stock acceptors of MIT and Heimdal, and at Apache, step by step
 	examples/gss_servers.sh
 
 bench: ## time the program: make bench BENCH=as_exchange (a script of bench/)
 	bench/$(BENCH).sh
 
-plant: crate-named ## list wrong bodies that a crate's contracts let through: make plant CRATE=krb_tgs
+plant: kit-there crate-named ## list wrong bodies that a crate's contracts let through: make plant CRATE=krb_tgs
 	cd crates/$(CRATE) && $(RT) plant
 
-fmt: $(if $(CRATE),crate-named) ## lay out the files of each crate, or of one: make fmt CRATE=krb_tgs
+fmt: kit-there $(if $(CRATE),crate-named) ## lay out the files of each crate, or of one: make fmt CRATE=krb_tgs
 	for crate in $(or $(CRATE),$(CRATES)); do (cd crates/$$crate && $(RT) fmt) || exit 1; done
 
 docs: ## check that the documents name what exists, that no number of a standard stands bare, and that the written pages and identifiers are what their sources say
@@ -89,15 +108,19 @@ docs: ## check that the documents name what exists, that no number of a standard
 	tools/oids --check
 	python3 -B bench/gate.py --budget
 
-budget: ## the gate in a clean clone, with its minutes crate by crate
+budget: kit-there ## the gate in a clean clone, with its minutes crate by crate
 	bench/gate.sh
 
 crate-named:
 	@test -n "$(CRATE)" || { echo "make: name a crate, as in make check CRATE=krb_tgs" >&2; exit 2; }
 	@test -d "crates/$(CRATE)/src" || { echo "make: there is no crate $(CRATE): crates.txt lists them" >&2; exit 2; }
 
+kit-there:
+	@tools/build --kit $(firstword $(RT))
+
 bridge-there:
 	@command -v socat >/dev/null || { echo "make: socat is missing (Debian: socat)" >&2; exit 2; }
+	@tools/free_port "$(PORT)"
 
 $(REALM)/settings.toml: | examples/settings.toml
 	mkdir -p $(REALM)
