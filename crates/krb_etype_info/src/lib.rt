@@ -11,13 +11,19 @@
 mod asking;
 mod by_hint;
 mod entries;
+mod grants;
 mod hint;
 pub mod laws;
+mod listing;
 mod parameters;
 mod reading;
 mod refusal;
+mod wanted;
 
 pub use asking::first_request;
 pub use by_hint::client_by_hint;
-pub use hint::{KeyHint, key_hint, key_hint_of_reply};
+pub use grants::taken_of_suites;
+pub use hint::{KeyHint, key_hint, key_hint_of_reply, suite_of_reply};
+pub use listing::{as_request_of_suites, tgs_request_of_suites};
 pub use refusal::{HintRefusal, HintedClientRefusal};
+pub use wanted::{USUAL_SUITES, Wanted, is_one_of};
