@@ -1,3 +1,5 @@
 pub mod Outcomes
+pub mod Salts
+pub mod Strengths
 pub mod MethodDataLemmas
 pub mod NamedClients

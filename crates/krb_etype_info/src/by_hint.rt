@@ -31,10 +31,10 @@ pub fn client_by_hint(
     password: &[u8],
     hint: &KeyHint,
 ) -> Result<(Client, ByKey), HintedClientRefusal>
-    ensures made { IsMemoryAside result (client_by_hint wanted realm.now (parts name.now) password.now hint.now) }
+    ensures made { IsMemoryAside result (client_by_hint wanted.entry realm.now (parts name.now) password.now hint.now) }
 
     // Running out of memory hides no other refusal.
-    ensures first { (refusal : HintedClientRefusal) → client_by_hint wanted realm.now (parts name.now) password.now hint.now ≡ Err refusal → result ≡ Err refusal }
+    ensures first { (refusal : HintedClientRefusal) → client_by_hint wanted.entry realm.now (parts name.now) password.now hint.now ≡ Err refusal → result ≡ Err refusal }
 {
     if !is_realm_name(realm) {
         return Err(HintedClientRefusal::BadName);
@@ -58,14 +58,14 @@ pub fn client_by_hint(
 
 // Whether the hint's suite is one that is wanted.
 fn takes_suite(wanted: Wanted<'_>, hint: &KeyHint) -> bool
-    ensures { result ≡ takes_suite wanted hint.now }
+    ensures { result ≡ takes_suite wanted.entry hint.now }
 {
     is_one_of(wanted.suites(), hint.suite)
 }
 
 // Whether the hint's salt is taken.
 fn takes_salt(wanted: Wanted<'_>, hint: &KeyHint, realm: &[u8], name: &[Vec<u8>]) -> bool
-    ensures { result ≡ takes_salt wanted hint.now realm.now (parts name.now) }
+    ensures { result ≡ takes_salt wanted.entry hint.now realm.now (parts name.now) }
 {
     match wanted {
         Wanted::Usual => has_default_salt(hint, realm, name),

@@ -28,7 +28,7 @@ pub enum Wanted<'a> {
 impl<'a> Wanted<'a> {
     /// The suites, in the order in which a request lists them.
     pub fn suites(self) -> &'a [CipherSuite]
-        ensures { result.now ≡ suites_of self }
+        ensures { result.now ≡ suites_of self.entry }
     {
         match self {
             Wanted::Usual => &USUAL_SUITES,

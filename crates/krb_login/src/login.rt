@@ -6,13 +6,16 @@ use crate::exchange::{ask_for_service, authenticate_by_certificate, authenticate
 use crate::kdc::Kdc;
 use crate::secret::{Secret, secret_of};
 use krb_client::Credential;
-use krb_commands::{Stop, refused, write_file};
+use krb_commands::{Stop, begin, refused, write_file};
 use krb_credential_caches::CacheWriteFault;
 use krb_login_caches::cache_of;
 use std::alloc::Global;
 
-/// Gets the tickets of a login, and writes the cache.
+/// Gets the tickets of a login, and writes the cache. It begins with a file beside the cache, which it takes away again: where none can be
+/// made, no KDC is asked.
 pub(crate) fn log_in(rt: &HostRuntime, login: &Login<'_>) -> Result<(), Stop> {
+    let place = begin(rt, login.cache.as_str())?;
+    place.discard(rt);
     match login.settings.means {
         Means::Key(file) => {
             let secret = secret_of(rt, login, file)?;
@@ -51,7 +54,7 @@ fn log_in_with(
     let further = tickets(rt.alloc(), kdc, login, granting)?;
     let octets = cached(rt.alloc(), login, granting, &further);
     drop(further);
-    write_file(rt, login.settings.cache, &octets?)
+    write_file(rt, login.cache.as_str(), &octets?)
 }
 
 // A ticket for each service, in their order.
@@ -81,6 +84,6 @@ fn cached(
     match octets {
         Ok(octets) => Ok(octets),
         Err(CacheWriteFault::Memory) => Err(Stop::Memory),
-        Err(fault) => Err(refused(alloc, format_args!("{}: {fault}", login.settings.cache))),
+        Err(fault) => Err(refused(alloc, format_args!("{}: {fault}", login.cache))),
     }
 }
