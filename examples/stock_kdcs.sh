@@ -120,7 +120,7 @@ mit_rows() {
     each_suite mit aes256-cts-hmac-sha1-96 aes128-cts-hmac-sha1-96 aes256-cts-hmac-sha384-192 aes128-cts-hmac-sha256-128
     try "triple DES: MIT's KDC makes no session key of it" yes "" mit_add triple des3-cbc-sha1
     try "so the login is refused" no "KDC_ERR_ETYPE_NOSUPP (14)" login -p "$work/password" -e $weak_suite triple@EXAMPLE.COM
-    try "triple DES, not asked for" no "KDC_ERR_ETYPE_NOSUPP (14); -e SUITE asks for others" login -p "$work/password" triple@EXAMPLE.COM
+    try "triple DES, not asked for" no "doesn't say how the key is made; -e SUITE asks for others" login -p "$work/password" triple@EXAMPLE.COM
     try "by password, with a salt of the KDC's" no "a salt that isn't the default one" login -p "$work/password" salted@EXAMPLE.COM
     try "the same, in a suite that is asked for" yes "the KDC names $suite with the salt " login -v -p "$work/password" -e $suite salted@EXAMPLE.COM
     all_rows
@@ -211,7 +211,11 @@ each_suite() {
     shift
     for etype in "$@"; do
         own=of-$etype asked=
-        [ "$etype" != des3-cbc-sha1 ] || asked="-e $weak_suite -e $suite"
+        case $kdc-$etype in
+            *-des3-cbc-sha1) asked="-e $weak_suite -e $suite" ;;
+            # Heimdal's salts of these are random.
+            heimdal-*-sha384-192 | heimdal-*-sha256-128) asked="-e $etype -e $suite" ;;
+        esac
         rm -f "$work/cache" "$work/own.keytab"
         try "$etype: a user with this key" yes "" "${kdc}_add" "$own" "$etype"
         try "$etype: its keytab" yes "" "${kdc}_keytab" "$work/own.keytab" "$own"

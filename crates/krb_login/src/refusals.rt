@@ -21,7 +21,8 @@ pub(crate) fn not_hinted(alloc: Global, login: &Login<'_>, refusal: HintRefusal)
     let advice = match refusal {
         HintRefusal::Memory => return Stop::Memory,
         HintRefusal::Refused(code) => advice_for(login, code),
-        HintRefusal::NoSuite => OTHER_SUITES,
+        // MIT's krb5kdc has no hint where the account has no key of a listed suite.
+        HintRefusal::NoSuite | HintRefusal::NoHint => OTHER_SUITES,
         _ => "",
     };
     refused(
