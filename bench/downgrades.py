@@ -7,7 +7,7 @@ import concurrent.futures, os, shutil, subprocess, sys, tempfile
 
 TOP = os.path.dirname(os.path.dirname(os.path.abspath(__file__)))
 CRATE = os.path.join(TOP, "crates", "krb_login")
-OLD = b"the old cache"
+OLD = b"\x05\x04the old cache"
 REALM, USER, SERVICE = "EXAMPLE.COM", "user", "host/server.example.com"
 SALT = REALM + USER
 DES3, AES128, AES256, AES128_SHA2, AES256_SHA2 = 16, 17, 18, 19, 20

@@ -11,7 +11,7 @@ from refused_growths import REFUSER
 
 TOP = os.path.dirname(os.path.dirname(os.path.abspath(__file__)))
 CRATE = os.path.join(TOP, "crates", "krb_login")
-OLD = b"the old cache"
+OLD = b"\x05\x04the old cache"
 # What is on disk although the status isn't 0.
 WRITTEN = re.compile(r"krb_login: cache is written, but a crash may undo it: ")
 # What the system's loader says before the program begins, with status 127.
@@ -57,7 +57,7 @@ class Ended:
             self.lines = ran.stderr.decode(errors="replace").splitlines()
             with open(os.path.join(folder, "cache"), "rb") as it:
                 self.cache = it.read()
-            self.is_left = os.path.exists(os.path.join(folder, "cache.new"))
+            self.is_left = any(name.endswith(".new") for name in os.listdir(folder))
             self.mode = os.stat(os.path.join(folder, "cache")).st_mode & 0o777
 
     def fault(self, new, may_be_left=False):
@@ -65,7 +65,7 @@ class Ended:
         if self.cache not in (OLD, new):
             return f"the cache is neither the old one nor the new one, status {self.status}"
         if self.is_left and not may_be_left:
-            return "cache.new was left"
+            return "a new file was left"
         if self.status == 0 and self.cache != new:
             return "status 0 with the old cache"
         if may_be_left or self.status == 127 and self.lines and OF_LOADER.match(self.lines[0]):
@@ -203,7 +203,7 @@ def refusals(program):
         (certified("password"), 1, f"password: the file is text that has no BEGIN line of what is asked for: {wanted}"),
         ([*cache, *password, "-r", "missing", *user], 2, "missing can't be read: "),
         ([*cache, *password, "-r", "/dev/null", *user], 2, "/dev/null: expected 96 random octets for each request"),
-        (["-c", "missing/cache", *ARGUMENTS[2:]], 2, "missing/cache.new can't be made: "),
+        (["-c", "missing/cache", *ARGUMENTS[2:]], 2, "missing/"),
     ]
     faults, texts = [], []
     for words, status, line in rows:

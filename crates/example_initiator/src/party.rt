@@ -3,7 +3,7 @@
 use crate::arguments::Asked;
 use krb_client::{AskRefusal, Client, Credential, TicketTimes};
 use krb_clock::after_epoch;
-use krb_commands::{Stop, octets_of, refused};
+use krb_commands::{FileKind, Stop, octets_of, refused};
 use krb_credential_caches::{
     CacheFault, CachePrincipal, CachedCredential, CredentialCache, CredentialTimes,
 };
@@ -31,7 +31,7 @@ pub(crate) fn party_in(rt: &HostRuntime, asked: &Asked<'_>) -> Result<Party, Sto
 }
 
 fn cache_in(rt: &HostRuntime, path: &str) -> Result<CredentialCache, Stop> {
-    let octets = octets_of(rt, path)?;
+    let octets = octets_of(rt, path, FileKind::Cache)?;
     match CredentialCache::from_bytes(rt.alloc(), &octets) {
         Ok(cache) => Ok(cache),
         Err(CacheFault::Memory) => Err(Stop::Memory),

@@ -2,13 +2,13 @@
 
 use crate::arguments::{Options, expected, name_of, options_of};
 use crate::secrets::{SaltedKey, key_of_digits, key_of_password, read_secret};
-use crate::texts::{account_among, check_absent, finish_text, lines_of, realm_of};
+use crate::texts::{account_among, finish_text, lines_of, realm_of};
 use crate::warnings::{RealmKey, Stream, is_service, warn_of_account, warn_of_realm};
 use krb_account_texts::{
     AccountLine, EditRefusal, Line, RealmLine, add, change_key, principal_name, realm_among, remove,
 };
 use krb_accounts::{Account, Settings, USUAL_LIFETIME, USUAL_SKEW, realm_name_of};
-use krb_commands::{Stop, begin, failed, refused};
+use krb_commands::{FileKind, Stop, begin, begin_first, failed, refused};
 use krb_crypto::{CipherSuite, Key};
 use krb_settings::{Secret, suite_name};
 use krb_types::data_types::PrincipalName;
@@ -24,15 +24,13 @@ pub(crate) fn create(rt: &HostRuntime, arguments: &[String]) -> Result<(), Stop>
     let [path, realm] = arguments else {
         return Err(expected(rt.alloc(), "create TEXT REALM"));
     };
-    let path = path.as_str();
     let digits = read_secret(rt)?;
-    let new_file = begin(rt, path)?;
-    let lines = created(rt, path, realm.as_str(), &digits);
+    let new_file = begin_first(rt, path.as_str(), &[])?;
+    let lines = created(rt, realm.as_str(), &digits);
     finish_text(rt, new_file, lines)
 }
 
-fn created(rt: &HostRuntime, path: &str, realm: &str, digits: &[u8]) -> Result<Vec<Line>, Stop> {
-    check_absent(rt, path)?;
+fn created(rt: &HostRuntime, realm: &str, digits: &[u8]) -> Result<Vec<Line>, Stop> {
     let lines = first_lines(rt.alloc(), realm, digits)?;
     warn_of_created(rt, &lines)?;
     Ok(lines)
@@ -192,7 +190,7 @@ fn given_of<'a>(
 /// `add [-e SUITE] [-k] TEXT NAME`: adds an account, with kvno 1.
 pub(crate) fn add_account(rt: &HostRuntime, arguments: &[String]) -> Result<(), Stop> {
     let given = given_of(rt, "add [-e SUITE] [-k] TEXT NAME", arguments)?;
-    let new_file = begin(rt, given.path)?;
+    let new_file = begin(rt, given.path, FileKind::Accounts, &[])?;
     let lines = added(rt, given);
     finish_text(rt, new_file, lines)
 }
@@ -280,7 +278,7 @@ fn told_secret(alloc: Global, given: &Given<'_>, key: &Key) -> Result<Secret, Al
 /// `key [-e SUITE] [-k] TEXT NAME`: gives an account its next key, with the next kvno.
 pub(crate) fn change_account(rt: &HostRuntime, arguments: &[String]) -> Result<(), Stop> {
     let given = given_of(rt, "key [-e SUITE] [-k] TEXT NAME", arguments)?;
-    let new_file = begin(rt, given.path)?;
+    let new_file = begin(rt, given.path, FileKind::Accounts, &[])?;
     let lines = changed(rt, &given);
     finish_text(rt, new_file, lines)
 }
@@ -312,7 +310,7 @@ pub(crate) fn remove_account(rt: &HostRuntime, arguments: &[String]) -> Result<(
         return Err(expected(rt.alloc(), "remove TEXT NAME"));
     };
     let name = name_of(rt.alloc(), name.as_str())?;
-    let new_file = begin(rt, path.as_str())?;
+    let new_file = begin(rt, path.as_str(), FileKind::Accounts, &[])?;
     let lines = removed(rt, path.as_str(), &name);
     finish_text(rt, new_file, lines)
 }

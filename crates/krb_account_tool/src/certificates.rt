@@ -6,7 +6,7 @@ use crate::texts::{finish_text, lines_of};
 use key_files::{FileFault, certificate_in, private_key_in};
 use krb_account_files::PKINIT_ROOM;
 use krb_account_texts::{Line, certify as put_certified};
-use krb_commands::{Stop, begin, octets_of, refused};
+use krb_commands::{FileKind, Stop, begin, octets_of, refused};
 use krb_file_realms::{PkinitFault, means_in};
 use picky_asn1::wrapper::OctetStringAsn1;
 use std::alloc::Global;
@@ -38,7 +38,12 @@ pub(crate) fn certify(rt: &HostRuntime, arguments: &[String]) -> Result<(), Stop
     };
     let octets = octets_in(rt, paths)?;
     check_means(rt.alloc(), paths, &octets)?;
-    change_realm(rt, path.as_str(), Some(OctetStringAsn1::from(octets)))
+    change_realm(
+        rt,
+        path.as_str(),
+        &[paths.certificate, paths.key, paths.anchor],
+        Some(OctetStringAsn1::from(octets)),
+    )
 }
 
 /// `uncertify TEXT`: takes it away.
@@ -46,11 +51,17 @@ pub(crate) fn uncertify(rt: &HostRuntime, arguments: &[String]) -> Result<(), St
     let [path] = arguments else {
         return Err(expected(rt.alloc(), "uncertify TEXT"));
     };
-    change_realm(rt, path.as_str(), None)
+    change_realm(rt, path.as_str(), &[], None)
 }
 
-fn change_realm(rt: &HostRuntime, path: &str, pkinit: Option<OctetStringAsn1>) -> Result<(), Stop> {
-    let new_file = begin(rt, path)?;
+// Changes the realm's line of a text, by what was read of these files.
+fn change_realm(
+    rt: &HostRuntime,
+    path: &str,
+    read: &[&str],
+    pkinit: Option<OctetStringAsn1>,
+) -> Result<(), Stop> {
+    let new_file = begin(rt, path, FileKind::Accounts, read)?;
     let lines = certified(rt, path, pkinit);
     finish_text(rt, new_file, lines)
 }
@@ -83,7 +94,7 @@ fn append(octets: &mut Vec<u8>, further: Result<Vec<u8>, Stop>) -> Result<(), St
 }
 
 fn certificate_of(rt: &HostRuntime, path: &str) -> Result<Vec<u8>, Stop> {
-    let file = octets_of(rt, path)?;
+    let file = octets_of(rt, path, FileKind::Certificate)?;
     match certificate_in(rt.alloc(), &file) {
         Ok(der) => Ok(der),
         Err(fault) => Err(unread(rt.alloc(), path, fault, CERTIFICATE)),
@@ -92,7 +103,7 @@ fn certificate_of(rt: &HostRuntime, path: &str) -> Result<Vec<u8>, Stop> {
 
 // The DER of the key, as PKCS#1 has it.
 fn key_of(rt: &HostRuntime, path: &str) -> Result<Vec<u8>, Stop> {
-    let file = octets_of(rt, path)?;
+    let file = octets_of(rt, path, FileKind::PrivateKey)?;
     match private_key_in(rt.alloc(), &file) {
         Ok(key) => {
             let der = to_vec(rt.alloc(), &key);

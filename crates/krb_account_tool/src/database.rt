@@ -7,7 +7,7 @@ use crate::warner::Warner;
 use crate::warnings::Stream;
 use cdb::{Record, answers_as};
 use krb_account_files::{RECORD_ROOM, RealmParameters, record_of_realm, write_records};
-use krb_commands::{Stop, begin, octets_of, refused};
+use krb_commands::{FileKind, Stop, begin, octets_of, refused};
 use std::alloc::Global;
 
 /// `make TEXT DATABASE`: makes the database of a text.
@@ -15,7 +15,7 @@ pub(crate) fn make(rt: &HostRuntime, arguments: &[String]) -> Result<(), Stop> {
     let [path, database] = arguments else {
         return Err(expected(rt.alloc(), "make TEXT DATABASE"));
     };
-    let new_file = begin(rt, database.as_str())?;
+    let new_file = begin(rt, database.as_str(), FileKind::Database, &[path.as_str()])?;
     let octets = made(rt, path.as_str());
     finish(rt, new_file, octets)
 }
@@ -91,7 +91,7 @@ fn all_records_in(rt: &HostRuntime, path: &str) -> Result<Vec<Record>, Stop> {
 
 fn compare(rt: &HostRuntime, path: &str, database: &str, records: &[Record]) -> Result<(), Stop> {
     let alloc = rt.alloc();
-    let octets = octets_of(rt, database)?;
+    let octets = octets_of(rt, database, FileKind::Database)?;
     let mut room = vec![in alloc; 0; RECORD_ROOM]?;
     match answers_as(&octets.as_slice(), records, &mut room) {
         Ok(true) => Ok(()),

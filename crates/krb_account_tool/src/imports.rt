@@ -3,10 +3,10 @@
 use crate::accounts::{refusal_of, service_name, two_lines};
 use crate::arguments::expected;
 use crate::secrets::{SaltedKey, key_of_password};
-use crate::texts::{check_absent, finish_text};
+use crate::texts::finish_text;
 use krb_account_texts::{AccountLine, EditRefusal, Line, RealmLine, add, principal_name};
 use krb_accounts::{Account, RealmRefusal, Settings, components_of, realm_name_of};
-use krb_commands::{Stop, begin, octets_of, refused};
+use krb_commands::{FileKind, Stop, begin_first, octets_of, refused};
 use krb_crypto::{CipherSuite, Key};
 use krb_settings::{AccountSettings, RealmSettings, Secret, SettingsFault, read_settings_file};
 use krb_settings_check::{Place, Rule, explain, explain_rule, warnings_of};
@@ -18,15 +18,14 @@ pub(crate) fn import(rt: &HostRuntime, arguments: &[String]) -> Result<(), Stop>
     let [settings, path] = arguments else {
         return Err(expected(rt.alloc(), "import SETTINGS TEXT"));
     };
-    let path = path.as_str();
-    let new_file = begin(rt, path)?;
-    let lines = imported(rt, settings.as_str(), path);
+    let settings = settings.as_str();
+    let new_file = begin_first(rt, path.as_str(), &[settings])?;
+    let lines = imported(rt, settings);
     finish_text(rt, new_file, lines)
 }
 
-fn imported(rt: &HostRuntime, settings: &str, path: &str) -> Result<Vec<Line>, Stop> {
-    check_absent(rt, path)?;
-    let text = octets_of(rt, settings)?;
+fn imported(rt: &HostRuntime, settings: &str) -> Result<Vec<Line>, Stop> {
+    let text = octets_of(rt, settings, FileKind::Settings)?;
     let source = Source {
         path: settings,
         text: &text,

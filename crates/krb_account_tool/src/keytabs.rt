@@ -3,7 +3,7 @@
 use crate::arguments::{expected, name_of};
 use crate::texts::{account_among, finish, lines_of, realm_of};
 use krb_account_texts::{AccountLine, Line};
-use krb_commands::{Stop, begin, is_there, keytab_in, refused};
+use krb_commands::{FileKind, Stop, begin, keytab_in, refused};
 use krb_constants::types::NT_PRINCIPAL;
 use krb_keytabs::{Keytab, KeytabRecord, KeytabWriteFault};
 use krb_types::is_same_name;
@@ -17,29 +17,40 @@ pub(crate) fn keytab(rt: &HostRuntime, arguments: &[String]) -> Result<(), Stop>
     let [path, keytab, _, ..] = arguments else {
         return Err(expected(rt.alloc(), "keytab TEXT KEYTAB NAME.."));
     };
-    let new_file = begin(rt, keytab.as_str())?;
-    let octets = written(rt, path.as_str(), keytab.as_str(), &arguments[2..]);
+    let new_file = begin(rt, keytab.as_str(), FileKind::Keytab, &[path.as_str()])?;
+    let old = if new_file.is_first() {
+        None
+    } else {
+        Some(keytab.as_str())
+    };
+    let octets = written(rt, path.as_str(), keytab.as_str(), old, &arguments[2..]);
     finish(rt, new_file, octets)
 }
 
-// The octets of the keytab.
-fn written(rt: &HostRuntime, path: &str, keytab: &str, names: &[String]) -> Result<Vec<u8>, Stop> {
+// The octets of the keytab, with the records of the old one, if there is one.
+fn written(
+    rt: &HostRuntime,
+    path: &str,
+    keytab: &str,
+    old: Option<&str>,
+    names: &[String],
+) -> Result<Vec<u8>, Stop> {
     let lines = lines_of(rt, path)?;
-    let records = records_of(rt, path, keytab, &lines, names);
+    let records = records_of(rt, path, old, &lines, names);
     drop(lines);
     keytab_of(rt.alloc(), keytab, records?)
 }
 
-// The records of the keytab, with those of the accounts of these names.
+// The records of the old keytab, with those of the accounts of these names.
 fn records_of(
     rt: &HostRuntime,
     path: &str,
-    keytab: &str,
+    old: Option<&str>,
     lines: &[Line],
     names: &[String],
 ) -> Result<Vec<KeytabRecord>, Stop> {
     let realm = realm_of(rt, path, lines)?;
-    let mut records = kept(rt, keytab)?;
+    let mut records = kept(rt, old)?;
     for name in names {
         put_record(rt, &mut records, &realm.name, lines, name.as_str())?;
     }
@@ -55,11 +66,11 @@ fn keytab_of(alloc: Global, keytab: &str, records: Vec<KeytabRecord>) -> Result<
     }
 }
 
-// The records of the keytab that is there.
-fn kept(rt: &HostRuntime, path: &str) -> Result<Vec<KeytabRecord>, Stop> {
-    if !is_there(rt, path) {
+// The records of the old keytab, if there is one.
+fn kept(rt: &HostRuntime, old: Option<&str>) -> Result<Vec<KeytabRecord>, Stop> {
+    let Some(path) = old else {
         return Ok(Vec::new(rt.alloc()));
-    }
+    };
     let keytab = keytab_in(rt, path)?;
     Ok(keytab.into_records())
 }

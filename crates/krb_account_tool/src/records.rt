@@ -7,7 +7,7 @@ use krb_account_files::{PKINIT_ROOM, RealmParameters, record_of_account};
 use krb_account_texts::{
     AccountLine, Line, LineFault, RealmLine, TextFault, check_next, read_line,
 };
-use krb_commands::{Stop, octets_of, refused};
+use krb_commands::{FileKind, Stop, octets_of, refused};
 use picky_asn1::wrapper::GeneralStringAsn1;
 use std::alloc::Global;
 
@@ -28,7 +28,7 @@ pub(crate) fn records_in(
     path: &str,
     warner: Option<Warner>,
 ) -> Result<RealmRecords, Stop> {
-    let octets = octets_of(rt, path)?;
+    let octets = octets_of(rt, path, FileKind::Accounts)?;
     let text = text_in(rt, path, &octets)?;
     let mut made = Made {
         realm: None,

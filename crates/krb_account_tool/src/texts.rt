@@ -4,13 +4,13 @@ use krb_account_texts::{
     AccountLine, Line, RealmLine, TextFault, check_order, place_of, read_lines, realm_among,
     text_of,
 };
-use krb_commands::{NewFile, Stop, failed, is_there, octets_of, refused};
+use krb_commands::{FileKind, NewFile, Stop, octets_of, refused};
 use picky_asn1::wrapper::GeneralStringAsn1;
 use std::alloc::Global;
 
 /// The lines of the text in a file.
 pub(crate) fn lines_of(rt: &HostRuntime, path: &str) -> Result<Vec<Line>, Stop> {
-    let octets = octets_of(rt, path)?;
+    let octets = octets_of(rt, path, FileKind::Accounts)?;
     let text = text_in(rt, path, &octets)?;
     match ordered_lines(rt.alloc(), text) {
         Ok(lines) => Ok(lines),
@@ -73,17 +73,6 @@ pub(crate) fn account_among<'a>(
         Line::Account(own) => Some(own),
         _ => None,
     }
-}
-
-/// Stops where there is a file of this path.
-pub(crate) fn check_absent(rt: &HostRuntime, path: &str) -> Result<(), Stop> {
-    if is_there(rt, path) {
-        return Err(failed(
-            rt.alloc(),
-            format_args!("{path} is there: expected no such file"),
-        ));
-    }
-    Ok(())
 }
 
 /// Puts the octets into the place of the file that is made, or nothing if they were refused.

@@ -3,7 +3,7 @@
 use crate::arguments::CertificateFiles;
 use diffie_hellman::Group;
 use key_files::{FileFault, certificate_in, private_key_in};
-use krb_commands::{Stop, octets_of, refused};
+use krb_commands::{FileKind, Stop, octets_of, refused};
 use pkinit_clients::ByCertificate;
 use pkinit_trust::Anchor;
 use result_pairs::both;
@@ -51,7 +51,7 @@ pub(crate) fn certified_in(
 
 // The DER of the certificate in a file.
 fn certificate_of(rt: &HostRuntime, path: &str) -> Result<Vec<u8>, Stop> {
-    let octets = octets_of(rt, path)?;
+    let octets = octets_of(rt, path, FileKind::Certificate)?;
     match certificate_in(rt.alloc(), &octets) {
         Ok(der) => Ok(der),
         Err(fault) => Err(unread(rt.alloc(), path, fault, "a certificate in PEM or DER")),
@@ -83,7 +83,7 @@ fn keys_of(rt: &HostRuntime, path: &str) -> Result<RsaKeys, Stop> {
 }
 
 fn private_key_of(rt: &HostRuntime, path: &str) -> Result<RsaPrivateKey, Stop> {
-    let octets = octets_of(rt, path)?;
+    let octets = octets_of(rt, path, FileKind::PrivateKey)?;
     match private_key_in(rt.alloc(), &octets) {
         Ok(key) => Ok(key),
         Err(fault) => Err(unread(

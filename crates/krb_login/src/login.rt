@@ -1,20 +1,21 @@
 //! A login, from its arguments to the cache.
 
-use crate::arguments::{Login, Means};
+use crate::arguments::{KeyFile, Login, Means, Settings};
 use crate::certified::{Certified, certified_in};
 use crate::exchange::{ask_for_service, authenticate_by_certificate, authenticate_by_key};
 use crate::kdc::Kdc;
 use crate::secret::{Secret, secret_of};
 use krb_client::Credential;
-use krb_commands::{Stop, begin, refused, write_file};
+use krb_commands::{FileKind, Stop, begin, refused, write_file};
 use krb_credential_caches::CacheWriteFault;
 use krb_login_caches::cache_of;
 use std::alloc::Global;
 
 /// Gets the tickets of a login, and writes the cache. It begins with a file beside the cache, which it takes away again: where none can be
-/// made, no KDC is asked.
+/// made, or what is there is no cache, no KDC is asked.
 pub(crate) fn log_in(rt: &HostRuntime, login: &Login<'_>) -> Result<(), Stop> {
-    let place = begin(rt, login.cache.as_str())?;
+    let read = files_read(&login.settings);
+    let place = begin(rt, login.cache.as_str(), FileKind::Cache, &read)?;
     place.discard(rt);
     match login.settings.means {
         Means::Key(file) => {
@@ -54,7 +55,17 @@ fn log_in_with(
     let further = tickets(rt.alloc(), kdc, login, granting)?;
     let octets = cached(rt.alloc(), login, granting, &further);
     drop(further);
-    write_file(rt, login.cache.as_str(), &octets?)
+    let read = files_read(&login.settings);
+    write_file(rt, login.cache.as_str(), FileKind::Cache, &read, &octets?)
+}
+
+// The paths of the files that a login reads.
+fn files_read<'a>(settings: &Settings<'a>) -> [&'a str; 4] {
+    let words = settings.words;
+    match settings.means {
+        Means::Key(KeyFile::Keytab(path) | KeyFile::Password(path)) => [path, path, path, words],
+        Means::Certificate(files) => [files.certificate, files.key, files.anchor, words],
+    }
 }
 
 // A ticket for each service, in their order.

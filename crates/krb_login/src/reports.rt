@@ -1,6 +1,7 @@
 //! What `-v` says of requests and answers. No text has a key or a password.
 
 use krb_client::read_error_code;
+use krb_commands::Printable;
 use krb_constants::error_names::ErrorCode;
 use krb_crypto::CipherSuite;
 use krb_etype_info::KeyHint;
@@ -32,8 +33,8 @@ pub(crate) fn hint_text(alloc: Global, hint: &KeyHint) -> Result<String, AllocEr
     let suite = suite_name(hint.suite);
     match &hint.salt {
         Some(salt) => {
-            let salt = salt.as_str();
-            format!(in alloc; "the KDC names {suite} with the salt {salt:?}")
+            let salt = Printable(salt.as_bytes());
+            format!(in alloc; "the KDC names {suite} with the salt \"{salt}\"")
         }
         None => format!(in alloc; "the KDC names {suite} with the default salt"),
     }
