@@ -1,4 +1,4 @@
-use Rattle.std.proofs.Common.{◌≡◌, false, map, List, Bor, ap, ◌∙◌}
+use Rattle.std.proofs.Common.{false, map, ap, ◌∙◌}
 use Rattle.krb_configuration.specs.Configuration.{realm_below}
 use Rattle.krb_configuration.proofs.realms.default_realm_in.Goals as goal
 

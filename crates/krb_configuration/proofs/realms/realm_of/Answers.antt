@@ -1,4 +1,4 @@
-use Rattle.std.proofs.Common.{◌≡◌, ◌==◌, ℕ, ◌+◌, List, [], Option, length, drop, take, ap, subst, ◌∙◌, arith, sym}
+use Rattle.std.proofs.Common.{◌≡◌, ◌==◌, ℕ, ◌+◌, List, [], Option, length, drop, take, ap, ◌∙◌, arith}
 use Rattle.std.specs.List.{after_first, before_first, position_or_len}
 use Rattle.std.specs.Option.{option_copied}
 use Rattle.std.proofs.lemmas.Str.Pattern.{split_once_first}
