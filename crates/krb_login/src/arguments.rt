@@ -110,13 +110,13 @@ pub(crate) struct Settings<'a> {
 
 /// Arguments without the option `-v`, and whether it was among them.
 #[derive(Drop)]
-pub(crate) struct Worded {
+pub(crate) struct Arguments {
     pub(crate) words: Vec<String>,
     pub(crate) is_verbose: bool,
 }
 
 /// Takes the option `-v` out of arguments. The value of another option isn't one.
-pub(crate) fn worded(alloc: Global, arguments: Vec<String>) -> Result<Worded, Stop> {
+pub(crate) fn without_flag(alloc: Global, arguments: Vec<String>) -> Result<Arguments, Stop> {
     let mut words = Vec::new(alloc);
     let mut is_verbose = false;
     let mut is_value = false;
@@ -129,7 +129,7 @@ pub(crate) fn worded(alloc: Global, arguments: Vec<String>) -> Result<Worded, St
             words.push(argument)?;
         }
     }
-    Ok(Worded { words, is_verbose })
+    Ok(Arguments { words, is_verbose })
 }
 
 // Whether an argument is an option that has a value.
@@ -138,10 +138,10 @@ fn takes_value(argument: &String) -> bool {
 }
 
 /// The login of these arguments, and of the environment where they leave something out.
-pub(crate) fn login_of<'a>(rt: &HostRuntime, worded: &'a Worded) -> Result<Login<'a>, Stop> {
+pub(crate) fn login_of<'a>(rt: &HostRuntime, arguments: &'a Arguments) -> Result<Login<'a>, Stop> {
     let alloc = rt.alloc();
-    let given = given_of(alloc, &OPTIONS, worded.words.as_slice())?;
-    let settings = settings_of(alloc, &given, worded.is_verbose);
+    let given = given_of(alloc, &OPTIONS, arguments.words.as_slice())?;
+    let settings = settings_of(alloc, &given, arguments.is_verbose);
     let files = both(cache_of(rt, &given), chosen_of(alloc, &given));
     let ((settings, files), user) = both(both(settings, files), user_of(rt, &given))?;
     let services = services_of(alloc, &user.client, &given);

@@ -31,7 +31,7 @@ mod refusals;
 mod reports;
 mod secret;
 
-use crate::arguments::{ONE_MEANS, login_of, worded};
+use crate::arguments::{ONE_MEANS, login_of, without_flag};
 use crate::login::log_in;
 use krb_commands::{Stop, arguments_of, is_word, print_line, usage};
 use krb_version::VERSION;
@@ -79,8 +79,8 @@ fn run(rt: &HostRuntime) -> Result<(), Stop> {
         [word] if is_word(word, "--help") || is_word(word, "-h") => print_line(rt, USAGE),
         [word] if is_word(word, "--version") => print_line(rt, format_args!("krb_login {VERSION}")),
         _ => {
-            let worded = worded(rt.alloc(), arguments)?;
-            let login = login_of(rt, &worded)?;
+            let arguments = without_flag(rt.alloc(), arguments)?;
+            let login = login_of(rt, &arguments)?;
             log_in(rt, &login)
         }
     }
