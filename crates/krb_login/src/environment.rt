@@ -1,11 +1,10 @@
 //! What the environment says where the arguments leave it out: the cache and the realm.
 
 use crate::arguments::named_cache;
-use krb_commands::{Stop, failed, usage};
+use krb_commands::{FileKind, Stop, failed, octets_of, usage};
 use krb_configuration::default_realm_in;
 use std::env::{self, VarError};
 use std::fs;
-use std::io::{self, ErrorKind, Read};
 use std::os::unix::fs::MetadataExt;
 
 /// The variable that names a cache.
@@ -16,9 +15,6 @@ const CONFIGURATION: &str = "KRB5_CONFIG";
 
 /// The configuration, if no variable names one.
 const USUAL_CONFIGURATION: &str = "/etc/krb5.conf";
-
-/// How many octets of a configuration are read.
-const CONFIGURATION_LIMIT: u64 = 1_048_576;
 
 /// The path of the cache that stock programs use: that of `KRB5CCNAME`, or else /tmp/krb5cc_UID.
 pub(crate) fn default_cache(rt: &HostRuntime) -> Result<String, Stop> {
@@ -61,9 +57,9 @@ pub(crate) fn default_realm(rt: &HostRuntime, user: &str) -> Result<String, Stop
 
 // The default realm of a file, if it can be read, is text, and names one.
 fn realm_in(rt: &HostRuntime, path: &str) -> Result<Option<String>, Stop> {
-    let octets = match front_of(rt, path) {
+    let octets = match octets_of(rt, path, FileKind::Settings) {
         Ok(octets) => octets,
-        Err(fault) if fault.kind() == ErrorKind::OutOfMemory => return Err(Stop::Memory),
+        Err(Stop::Memory) => return Err(Stop::Memory),
         Err(_) => return Ok(None),
     };
     let Ok(text) = str::from_utf8(&octets) else {
@@ -73,14 +69,6 @@ fn realm_in(rt: &HostRuntime, path: &str) -> Result<Option<String>, Stop> {
         Some(realm) => Ok(Some(String::from_str(rt.alloc(), realm)?)),
         None => Ok(None),
     }
-}
-
-// The octets of a configuration.
-fn front_of(rt: &HostRuntime, path: &str) -> io::Result<Vec<u8>> {
-    let file = fs::open(rt, path)?;
-    let mut octets = Vec::new(rt.alloc());
-    file.take(CONFIGURATION_LIMIT).read_to_end(&mut octets)?;
-    Ok(octets)
 }
 
 // The value of a variable, if it is set, isn't empty and is text.
