@@ -11,7 +11,7 @@ from refused_growths import REFUSER
 
 TOP = os.path.dirname(os.path.dirname(os.path.abspath(__file__)))
 CRATE = os.path.join(TOP, "crates", "krb_login")
-OLD = b"the old cache"
+OLD = b"\x05\x04the old cache"
 # What is on disk although the status isn't 0.
 WRITTEN = re.compile(r"krb_login: cache is written, but a crash may undo it: ")
 # What the system's loader says before the program begins, with status 127.
@@ -42,12 +42,16 @@ def frames(octets):
 class Ended:
     """How a run ended: status, lines on standard error, the requests, the cache, and whether a file was left beside it."""
 
-    def __init__(self, program, words, replies=REPLIES, front=(), room=(), output=subprocess.PIPE):
+    def __init__(self, program, words, replies=REPLIES, front=(), room=(), output=subprocess.PIPE, configuration=None):
         with tempfile.TemporaryDirectory() as folder:
             shutil.copytree(os.path.join(CRATE, "data"), folder, dirs_exist_ok=True)
+            if configuration is not None:
+                with open(os.path.join(folder, "krb5.conf"), "w") as it:
+                    it.write(configuration)
             with open(os.path.join(folder, "cache"), "wb") as it:
                 it.write(OLD)
-            how = dict(cwd=folder, env=dict(os.environ, **dict(room)), stdout=output, stderr=subprocess.PIPE, timeout=60)
+            own = dict(os.environ, KRB5CCNAME="FILE:cache", KRB5_CONFIG="krb5.conf", **dict(room))
+            how = dict(cwd=folder, env=own, stdout=output, stderr=subprocess.PIPE, timeout=60)
             ran = subprocess.run([*front, program, *words], input=replies, **how)
             self.status, self.requests = ran.returncode, ran.stdout
             self.lines = ran.stderr.decode(errors="replace").splitlines()
@@ -163,11 +167,16 @@ def refusals(program):
     certified = lambda file: [*cache, "-C", file, "-K", file, "-A", file, *user]
     wanted = "expected a certificate in PEM or DER"
     rows = [
-        ([], 2, f"{one_means}; and -c CACHE, USER@REALM: see --help"),
+        ([], 2, f"{one_means}; and USER@REALM: see --help"),
         (["-x", "1", *user], 2, "-x: no such option: expected one of --help"),
         ([*cache, *password, *user, "-s"], 2, "-s: expected its value after it"),
         ([*cache, *cache, *password, *user], 2, "-c: expected it once"),
-        ([*password, *user], 2, "expected: -c CACHE"),
+        (["-c", "KCM:0", *password, *user], 2, '-c: "KCM:0" is no file: expected a path or FILE:PATH'),
+        (["-c", "FILE:", *password, *user], 2, '-c: "FILE:" is no file: expected a path or FILE:PATH'),
+        ([*cache, *password, "-e", "aes", *user], 2, '-e: "aes" is no suite: expected one, as aes256-cts-hmac-sha1-96'),
+        ([*cache, *password, *user, "-e"], 2, "-e: expected its value after it"),
+        ([*cache, *password, "-v", *user, "-s"], 2, "-s: expected its value after it"),
+        ([*cache, "-p", "-v", *user], 2, "-v can't be read: "),
         ([*cache, *user], 2, one_means),
         ([*cache, *password, "-k", "keytab", *user], 2, one_means),
         ([*password, *certified("words")], 2, one_means),
@@ -178,7 +187,7 @@ def refusals(program):
         ([*cache, "-p", "-", *user], 2, "-p: standard input is the KDC's: expected a file, as /dev/fd/3"),
         ([*cache, *password], 2, "expected: one USER@REALM"),
         ([*cache, *password, *user, *user], 2, "expected: one USER@REALM"),
-        ([*cache, *password, "user"], 2, "user: expected USER@REALM"),
+        ([*cache, *password, "user"], 2, 'user: expected USER@REALM, or default_realm in "krb5.conf"'),
         ([*cache, *password, "@EXAMPLE.COM"], 2, "@EXAMPLE.COM: "),
         ([*cache, *password, "-l", "0", *user], 2, "-l: expected a whole number of seconds from 1 to 31536000"),
         ([*cache, *password, "-l", "31536001", *user], 2, "-l: expected a whole number of seconds from 1 to 31536000"),
@@ -194,7 +203,7 @@ def refusals(program):
         (certified("password"), 1, f"password: the file is text that has no BEGIN line of what is asked for: {wanted}"),
         ([*cache, *password, "-r", "missing", *user], 2, "missing can't be read: "),
         ([*cache, *password, "-r", "/dev/null", *user], 2, "/dev/null: expected 96 random octets for each request"),
-        (["-c", "missing/cache", *ARGUMENTS[2:]], 2, "missing/cache can't be written: "),
+        (["-c", "missing/cache", *ARGUMENTS[2:]], 2, "missing/"),
     ]
     faults, texts = [], []
     for words, status, line in rows:
@@ -208,6 +217,37 @@ def refusals(program):
     return told("arguments, files and streams that are refused", faults, [*texts, said(full)])
 
 
+# A user without a realm, by a configuration, with the line that the program ends with.
+CONFIGURATIONS = [
+    ("[libdefaults]\n    default_realm = EXAMPLE.COM\n", None),
+    ("# default_realm = A\n[realms]\ndefault_realm = B\n[libdefaults]\n\n\tdefault_realm=EXAMPLE.COM \r\ndefault_realm = C\n", None),
+    ("[libdefaults]\ndefault_realms = B\ndefault_realm\ndefault_realm =\n [libdefaults] \ndefault_realm = EXAMPLE.COM", None),
+    ("[realms]\n    default_realm = EXAMPLE.COM\n", "user: expected USER@REALM, or default_realm in "),
+    ("", "user: expected USER@REALM, or default_realm in "),
+    ("[libdefaults]\ndefault_realm = B\n", "user: the KDC names a salt that isn't the default one: "),
+]
+
+
+def environments(program, new):
+    """The cache of the environment, the realm of its configuration, and what -v says."""
+    words = [*ARGUMENTS[2:-1], "user"]
+    faults, texts = [], []
+    for configuration, line in CONFIGURATIONS:
+        ended = Ended(program, words, configuration=configuration)
+        if line is None:
+            is_right = ended.status == 0 and ended.cache == new
+        else:
+            is_right = ended.status and ended.cache == OLD and ended.lines[0].startswith(f"krb_login: {line}")
+        faults.append(None if is_right else f"{configuration!r}: {said(ended)}")
+        texts.append(said(ended))
+    ended = Ended(program, ["-v", *ARGUMENTS])
+    wanted = ["AS-REQ without padata for ", "the KDC names aes256-cts-hmac-sha1-96 with the salt ", "AS-REQ with an encrypted timestamp for ", "TGS-REQ for "]
+    is_right = ended.status == 0 and ended.cache == new and len(ended.lines) == len(wanted)
+    is_right = is_right and all(it.startswith(f"krb_login: {own}") for it, own in zip(ended.lines, wanted))
+    faults.append(None if is_right else f"-v: {said(ended)}: {ended.lines}")
+    return told("cache and realm of the environment, and -v", faults, [*texts, said(ended)])
+
+
 def main():
     program = os.path.abspath(sys.argv[1])
     whole = Ended(program, ARGUMENTS)
@@ -215,7 +255,7 @@ def main():
         print(f"a run without a fault: {said(whole)}, mode {whole.mode:o}")
         return 1
     new = whole.cache
-    wrong = refusals(program)
+    wrong = refusals(program) + environments(program, new)
     with tempfile.TemporaryDirectory() as folder, concurrent.futures.ThreadPoolExecutor(len(os.sched_getaffinity(0))) as pool:
         wrong += growths(program, new, folder, pool)
         wrong += calls(program, new, folder, pool)

@@ -1,7 +1,8 @@
 #!/bin/sh
 # krb_login logs in at MIT's krb5kdc and at Heimdal's kdc on 127.0.0.1, with databases that are made anew: by password and by keytab, with
-# a key of each suite, with a salt of the KDC's own, and without preauthentication. MIT's klist, kvno and gss-client use its caches, and
-# Heimdal's klist and kgetcred. It is refused with a wrong or an expired password, an unknown name, and a clock that is 10 minutes off.
+# a key of each suite, with a salt of the KDC's own, and without preauthentication. Triple DES and such a salt need an option. MIT's klist, kvno
+# and gss-client use its caches, and Heimdal's klist and kgetcred. It is refused with a wrong or an expired password, an unknown name, and a
+# clock that is 10 minutes off.
 # krb_keytab lists and copies keytabs of both. Prints what each gave; the status is 1 where one differs from what it should, and 2
 # where a tool is missing. All files are in a temporary folder, and what is started is ended.
 #
@@ -18,6 +19,7 @@ trap 'exit 1' INT TERM
 . "$top/examples/stock.sh"
 . "$top/bench/programs.sh"
 suite=aes256-cts-hmac-sha1-96
+weak_suite=des3-cbc-sha1-kd
 
 need python3 python3
 need krb5kdc krb5-kdc
@@ -47,6 +49,13 @@ late() {
 
 by_descriptor() {
     login -p /dev/fd/3 user@EXAMPLE.COM 3<"$work/password"
+}
+
+# The cache and the realm are those of the environment.
+by_environment() {
+    rm -f "$work/cache"
+    KRB5_CONFIG=$work/mit.conf KRB5CCNAME=FILE:$work/cache "$top/examples/krb_connect" "127.0.0.1:$port" -- "$KRB_LOGIN" -p "$work/password" user &&
+        by_cache klist
 }
 
 by_cache() {
@@ -110,8 +119,10 @@ mit_rows() {
     mit_keytab "$work/user.keytab" user >>"$work/log" 2>&1
     each_suite mit aes256-cts-hmac-sha1-96 aes128-cts-hmac-sha1-96 aes256-cts-hmac-sha384-192 aes128-cts-hmac-sha256-128
     try "triple DES: MIT's KDC makes no session key of it" yes "" mit_add triple des3-cbc-sha1
-    try "so the login is refused" no "KDC_ERR_ETYPE_NOSUPP (14)" login -p "$work/password" triple@EXAMPLE.COM
-    try "by password, with a salt of the KDC's" yes "" login -p "$work/password" salted@EXAMPLE.COM
+    try "so the login is refused" no "KDC_ERR_ETYPE_NOSUPP (14)" login -p "$work/password" -e $weak_suite triple@EXAMPLE.COM
+    try "triple DES, not asked for" no "doesn't say how the key is made; -e SUITE asks for others" login -p "$work/password" triple@EXAMPLE.COM
+    try "by password, with a salt of the KDC's" no "a salt that isn't the default one" login -p "$work/password" salted@EXAMPLE.COM
+    try "the same, in a suite that is asked for" yes "the KDC names $suite with the salt " login -v -p "$work/password" -e $suite salted@EXAMPLE.COM
     all_rows
 }
 
@@ -188,6 +199,8 @@ heimdal_rows() {
     heimdal_keytab "$work/user.keytab" user >>"$work/log" 2>&1
     each_suite heimdal aes256-cts-hmac-sha1-96 aes128-cts-hmac-sha1-96 aes256-cts-hmac-sha384-192 aes128-cts-hmac-sha256-128 des3-cbc-sha1
     all_rows
+    try "triple DES, by a keytab, not asked for" no "is of a suite that is asked for" login -k "$work/own.keytab" "$own@EXAMPLE.COM"
+    try "triple DES, by password, not asked for" no "-e SUITE asks for others" login -p "$work/password" "$own@EXAMPLE.COM"
     try "Heimdal's klist" yes "krbtgt/EXAMPLE.COM@EXAMPLE.COM" heimdal heimtools klist -v -c "FILE:$work/cache"
     try "Heimdal's kgetcred" yes "" heimdal kgetcred --cache="FILE:$work/cache" "host/$host@EXAMPLE.COM"
 }
@@ -197,14 +210,21 @@ each_suite() {
     kdc=$1
     shift
     for etype in "$@"; do
-        own=of-$etype
+        own=of-$etype asked=
+        case $kdc-$etype in
+            *-des3-cbc-sha1) asked="-e $weak_suite -e $suite" ;;
+            # Heimdal's salts of these are random.
+            heimdal-*-sha384-192 | heimdal-*-sha256-128) asked="-e $etype -e $suite" ;;
+        esac
         rm -f "$work/cache" "$work/own.keytab"
         try "$etype: a user with this key" yes "" "${kdc}_add" "$own" "$etype"
         try "$etype: its keytab" yes "" "${kdc}_keytab" "$work/own.keytab" "$own"
-        try "$etype: by password" yes "" login -p "$work/password" "$own@EXAMPLE.COM"
+        # shellcheck disable=SC2086
+        try "$etype: by password" yes "" login $asked -p "$work/password" "$own@EXAMPLE.COM"
         try "$etype: klist" yes "krbtgt/EXAMPLE.COM@EXAMPLE.COM" by_cache klist -e -f
         try "$etype: kvno" yes "kvno = " by_cache kvno "host/$host"
-        try "$etype: by keytab, with a ticket for the service" yes "" login -k "$work/own.keytab" -s "host/$host" "$own@EXAMPLE.COM"
+        # shellcheck disable=SC2086
+        try "$etype: by keytab, with a ticket for the service" yes "" login $asked -k "$work/own.keytab" -s "host/$host" "$own@EXAMPLE.COM"
         try "$etype: klist" yes "host/$host@EXAMPLE.COM" by_cache klist -e -f
         try "$etype: gss-client" yes "Signature verified" gss
     done
@@ -212,6 +232,10 @@ each_suite() {
 
 all_rows() {
     try "by the password of a file descriptor" yes "" by_descriptor
+    try "the cache and the realm of the environment" yes "Default principal: user@EXAMPLE.COM" by_environment
+    try "what it asks and what the KDC answers" yes "AS-REQ without padata for \"user@EXAMPLE.COM\", etypes .*: KDC_ERR_PREAUTH_REQUIRED (25)" \
+        login -v -p "$work/password" user@EXAMPLE.COM
+    try "a realm in lower case" no "hint: realms are mostly written in upper case" login -p "$work/password" user@example.com
     try "by password, without preauthentication" yes "" login -p "$work/password" open@EXAMPLE.COM
     try "without preauthentication, wrong password" no "isn't sealed" login -p "$work/wrong" open@EXAMPLE.COM
     try "wrong password" no "KDC_ERR_PREAUTH_FAILED (24)" login -p "$work/wrong" user@EXAMPLE.COM

@@ -1,7 +1,7 @@
 -- What a table gives, memory aside, by what its first row says.
-use Rattle.std.proofs.Common.{Result, Ok, Err, inl, inr}
+use Rattle.std.proofs.Common.{◌≡◌, Result, Ok, Err, inl, inr}
 use Rattle.decision_tables.specs.One.{IsSole}
-use Rattle.decision_tables.specs.Tables.{Table, ask}
+use Rattle.decision_tables.specs.Tables.{Table, ask, done}
 use Rattle.krb_etype_info.specs.Refusals.{IsHinted}
 use Rattle.krb_etype_info.specs.declared.refusal.HintRefusal.{HintRefusal}
 use Rattle.krb_etype_info.specs.declared.refusal.HintRefusal.TheVariants.{Memory, NoHint, NoSuite, OtherParameters, Refused, Unreadable}
@@ -27,3 +27,13 @@ not_found P sole otherwise rest (Err NoHint) none given = inr (none, given)
 not_found P sole otherwise rest (Err NoSuite) none given = inr (none, given)
 not_found P sole otherwise rest (Err OtherParameters) none given = inr (none, given)
 not_found P sole otherwise rest (Err Memory) none given = tt
+
+-- an answer is the one outcome of a table without rows
+pub given : {T : Type 0} (answer outcome : Result T HintRefusal) → answer ≡ outcome → IsHinted (done outcome) answer
+given (Ok value) outcome is = is
+given (Err Unreadable) outcome is = is
+given (Err (Refused code)) outcome is = is
+given (Err NoHint) outcome is = is
+given (Err NoSuite) outcome is = is
+given (Err OtherParameters) outcome is = is
+given (Err Memory) outcome is = tt

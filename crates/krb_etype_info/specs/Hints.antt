@@ -119,3 +119,14 @@ unfoldable pub reply_hint : List CipherSuite → Bytes → Table Hinted
 reply_hint suites bytes =
     -- The bytes are the DER encoding of one AS-REP (RFC 4120, section 5.4.2). Test: `cut reply` of `hints.txt`.
     ask (IsAsRep bytes) (sole_as_rep bytes) (done (Err Unreadable)) (hint_of_reply suites)
+
+-- The suite of an AS reply's enc-part, if it is one of these.
+abbrev pub suite_in_reply : List CipherSuite → KdcRep → Result CipherSuite HintRefusal
+suite_in_reply suites reply = option_map_or Ok (suite_among suites reply.enc_part.0.etype.0) (Err NoSuite)
+
+-- The suite of which the bytes of a KDC's AS reply are encrypted. The client of this suite judges the reply.
+unfoldable pub reply_suite : List CipherSuite → Bytes → Table (Result CipherSuite HintRefusal)
+reply_suite suites bytes =
+    -- The bytes are the DER encoding of one AS-REP, whose enc-part has an etype that the client takes (RFC 4120, sections 3.1.5, 5.4.2).
+    -- Test: `suite of a reply`, `suite of a reply, not listed`, `suite of an error` of `hints.txt`.
+    ask (IsAsRep bytes) (sole_as_rep bytes) (done (Err Unreadable)) (λ reply. done (suite_in_reply suites reply))

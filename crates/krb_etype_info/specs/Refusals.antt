@@ -20,6 +20,8 @@ abbrev pub client_number : HintedClientRefusal → ℕ
 client_number client_refusal.BadName = 1
 client_number client_refusal.NoKey = 2
 client_number client_refusal.Memory = 3
+client_number client_refusal.OtherSuite = 4
+client_number client_refusal.OtherSalt = 5
 
 -- Memory ran out, or the table gives the answer.
 abbrev pub IsHinted : {T : Type 0} → Table (Result T HintRefusal) → Result T HintRefusal → Type 0

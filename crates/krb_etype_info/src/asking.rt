@@ -4,7 +4,7 @@ ghost use Rattle.krb_types.specs.RandomBytes.{AreEnoughForRequest};
 ghost use Rattle.krb_accounts.specs.Names.{are_components, parts};
 ghost use Rattle.krb_client.specs.AsRequest.{as_asked};
 ghost use Rattle.krb_client.specs.Messages.{as_request_bytes};
-ghost use Rattle.krb_etype_info.specs.FirstRequests.{bare_request, etypes, first_body, first_request_bytes};
+ghost use Rattle.krb_etype_info.specs.FirstRequests.{bare_request, etypes, first_body, first_request_bytes, listing_body};
 
 use krb_accounts::{are_components, components_of};
 use krb_client::{AsAsked, AskRefusal, Client, nonce_of};
@@ -52,8 +52,8 @@ pub fn first_request(
     Ok((bytes, asked))
 }
 
-// The request's body.
-fn first_body(
+/// The body of an AS request that lists the suites.
+pub(crate) fn first_body(
     alloc: Global,
     client: &Client,
     suites: &[CipherSuite],
@@ -64,8 +64,23 @@ fn first_body(
     requires { AreEnoughForRequest words.now }
     ensures { IfOk result (λ body. body ≡ first_body client.now suites.now service.now till words.now) }
 {
+    listing_body(alloc, client, true, suites, service, till, nonce_of(words))
+}
+
+/// The body of a request that lists the suites. `named`: whether it has the client's name, as an AS request's body does.
+pub(crate) fn listing_body(
+    alloc: Global,
+    client: &Client,
+    named: bool,
+    suites: &[CipherSuite],
+    service: &[GeneralStringAsn1],
+    till: GeneralizedTime,
+    nonce: u32,
+) -> Result<KdcReqBody, AllocError>
+    ensures { IfOk result (λ body. body ≡ listing_body client.now named suites.now service.now till nonce) }
+{
     let list = etypes(alloc, suites);
-    let body = client.request_body(alloc, true, service, till, nonce_of(words));
+    let body = client.request_body(alloc, named, service, till, nonce);
     let (list, mut body) = both(list, body)?;
     body.etype = ExplicitContextTag(list);
     Ok(body)
@@ -107,9 +122,9 @@ fn bare_request(alloc: Global, body: KdcReqBody) -> Result<KdcReq, AllocError>
     })
 }
 
-// The encoding of the request.
+/// The encoding of the request.
 #[tactic(auto, unfolding(krb_client::specs::Messages::as_request_bytes))]
-fn encoded(alloc: Global, request: KdcReq) -> Result<Vec<u8>, AllocError>
+pub(crate) fn encoded(alloc: Global, request: KdcReq) -> Result<Vec<u8>, AllocError>
     ensures { IfOk result (λ bytes. bytes.items ≡ as_request_bytes request) }
 {
     let bytes = tagged_encoding::<KdcReq, AS_REQ_MSG_TYPE>(alloc, request)?;

@@ -1,7 +1,7 @@
 //! The suite and the salt of a client's key, as a KDC's answer has them.
 ghost use Rattle.std.specs.Prelude.{◌≡◌, IfOk};
 ghost use Rattle.std.specs.Option.{option_copied};
-ghost use Rattle.krb_etype_info.specs.Hints.{error_hint, hint_by, hint_of_data, hint_of_entries, hint_of_error, hint_of_info, hint_of_methods, hint_of_padata, hint_of_reply, info_in, reply_hint};
+ghost use Rattle.krb_etype_info.specs.Hints.{error_hint, hint_by, hint_of_data, hint_of_entries, hint_of_error, hint_of_info, hint_of_methods, hint_of_padata, hint_of_reply, info_in, reply_hint, reply_suite, suite_in_reply};
 ghost use Rattle.krb_etype_info.specs.Refusals.{IsHinted};
 
 use crate::entries::{first_entry, suite_among};
@@ -65,6 +65,23 @@ pub fn key_hint_of_reply(
     let hint = hint_of_reply(alloc, suites, &reply);
     drop(reply);
     hint
+}
+
+/// The suite of an AS reply's enc-part, which has to be one of these. A client of this suite judges the reply (`Client::take_as_reply`).
+#[tactic(auto, unfolding(crate::specs::Hints::reply_suite))]
+pub fn suite_of_reply(
+    alloc: Global,
+    suites: &[CipherSuite],
+    reply: &[u8],
+) -> Result<CipherSuite, HintRefusal>
+    ensures { IsHinted (reply_suite suites.now reply.now) result }
+{
+    let Some(reply) = read_reply(alloc, reply)? else {
+        return Err(HintRefusal::Unreadable);
+    };
+    let suite = suite_in_reply(suites, &reply);
+    drop(reply);
+    suite
 }
 
 // What an error says.
@@ -133,6 +150,16 @@ fn hint_of_reply(
         return Err(HintRefusal::NoSuite);
     };
     hint_of_padata(alloc, suite, reply)
+}
+
+// The suite of a reply's enc-part.
+fn suite_in_reply(suites: &[CipherSuite], reply: &KdcRep) -> Result<CipherSuite, HintRefusal>
+    ensures { result ≡ suite_in_reply suites.now reply.now }
+{
+    match suite_among(suites, &reply.enc_part.0.etype.0) {
+        Some(suite) => Ok(suite),
+        None => Err(HintRefusal::NoSuite),
+    }
 }
 
 // The first PA-ETYPE-INFO2 of a reply's padata.

@@ -68,6 +68,14 @@ pub enum HintedClientRefusal {
     #[error("not a name of a realm or a principal")]
     BadName,
 
+    /// The hint's suite isn't one that the client takes.
+    #[error("the KDC names no suite that the client takes")]
+    OtherSuite,
+
+    /// The hint's salt isn't the default one, and the user named no suite.
+    #[error("the KDC names a salt that isn't the default one: expected the realm, then the name's components")]
+    OtherSalt,
+
     /// Triple DES has no key of an empty password with an empty salt.
     #[error("no key of an empty password with an empty salt")]
     NoKey,
@@ -78,12 +86,14 @@ pub enum HintedClientRefusal {
 }
 
 impl HintedClientRefusal {
-    /// The refusal's number: 1 for a bad name, 2 where there is no key, 3 if memory ran out.
+    /// The refusal's number: 1 for a bad name, 2 where there is no key, 3 if memory ran out, 4 for another suite, 5 for another salt.
     pub fn number(self) -> u32
         ensures { result ≡ client_number self }
     {
         match self {
             HintedClientRefusal::BadName => 1,
+            HintedClientRefusal::OtherSuite => 4,
+            HintedClientRefusal::OtherSalt => 5,
             HintedClientRefusal::NoKey => 2,
             HintedClientRefusal::Memory => 3,
         }

@@ -1,16 +1,24 @@
 //! The arguments of a login.
 
+use crate::environment::{default_cache, default_realm};
+use krb_account_texts::suite_named;
 use krb_accounts::{LIFETIME_LIMIT, USUAL_LIFETIME, are_components};
 use krb_client::{AskRefusal, Client};
-use krb_commands::{Given, Stop, given_of, principal_in, usage};
+use krb_commands::{Given, Stop, given_of, is_word, principal_in, usage};
 use krb_crypto::CipherSuite;
+use krb_etype_info::Wanted;
 use krb_time::Moment;
 use krb_types::PrincipalText;
 use result_pairs::both;
 use std::alloc::Global;
 
-/// The options.
-const OPTIONS: [&str; 10] = ["-k", "-p", "-C", "-K", "-A", "-c", "-s", "-l", "-r", "-t"];
+/// The options that have a value.
+const OPTIONS: [&str; 11] = [
+    "-k", "-p", "-C", "-K", "-A", "-c", "-e", "-s", "-l", "-r", "-t",
+];
+
+/// The option that has none: the program says what it asks and what the KDC answers.
+const VERBOSE: &str = "-v";
 
 /// The random octets, if no file is given.
 const WORDS: &str = "/dev/urandom";
@@ -52,7 +60,22 @@ pub(crate) struct Login<'a> {
     pub(crate) user: User<'a>,
     /// The services, in their order.
     pub(crate) services: Vec<Service<'a>>,
+    /// The path of the cache.
+    pub(crate) cache: String,
+    /// The suites that the user named, or none.
+    chosen: Vec<CipherSuite>,
     pub(crate) settings: Settings<'a>,
+}
+
+impl Login<'_> {
+    /// The suites that the client takes.
+    pub(crate) fn wanted(&self) -> Wanted<'_> {
+        if self.chosen.is_empty() {
+            Wanted::Usual
+        } else {
+            Wanted::Chosen(self.chosen.as_slice())
+        }
+    }
 }
 
 /// The client, with the argument that names it, and the components of its name. Its suite doesn't count.
@@ -70,54 +93,129 @@ pub(crate) struct Service<'a> {
     pub(crate) components: Vec<Vec<u8>>,
 }
 
-/// The values of the options but `-s`.
+/// The values of the options but `-c`, `-e` and `-s`.
 #[derive(Clone, Copy)]
 pub(crate) struct Settings<'a> {
     /// How the client authenticates itself.
     pub(crate) means: Means<'a>,
-    /// The path of the cache.
-    pub(crate) cache: &'a str,
     /// The lifetime that is requested for tickets, in seconds.
     pub(crate) lifetime: u64,
     /// The path of the random octets.
     pub(crate) words: &'a str,
     /// The moment of each request, if it isn't the clock's.
     pub(crate) moment: Option<Moment>,
+    /// Whether it says what it asks and what the KDC answers.
+    pub(crate) is_verbose: bool,
 }
 
-/// The login of these arguments.
-pub(crate) fn login_of<'a>(alloc: Global, arguments: &'a [String]) -> Result<Login<'a>, Stop> {
-    let given = given_of(alloc, &OPTIONS, arguments)?;
-    let (settings, user) = both(settings_of(alloc, &given), user_of(alloc, &given))?;
+/// Arguments without the option `-v`, and whether it was among them.
+#[derive(Drop)]
+pub(crate) struct Arguments {
+    pub(crate) words: Vec<String>,
+    pub(crate) is_verbose: bool,
+}
+
+/// Takes the option `-v` out of arguments. The value of another option isn't one.
+pub(crate) fn without_flag(alloc: Global, arguments: Vec<String>) -> Result<Arguments, Stop> {
+    let mut words = Vec::new(alloc);
+    let mut is_verbose = false;
+    let mut is_value = false;
+    for argument in arguments {
+        let is_flag = !is_value && is_word(&argument, VERBOSE);
+        is_value = !is_value && takes_value(&argument);
+        if is_flag {
+            is_verbose = true;
+        } else {
+            words.push(argument)?;
+        }
+    }
+    Ok(Arguments { words, is_verbose })
+}
+
+// Whether an argument is an option that has a value.
+fn takes_value(argument: &String) -> bool {
+    OPTIONS.iter().any(|option| is_word(argument, option))
+}
+
+/// The login of these arguments, and of the environment where they leave something out.
+pub(crate) fn login_of<'a>(rt: &HostRuntime, arguments: &'a Arguments) -> Result<Login<'a>, Stop> {
+    let alloc = rt.alloc();
+    let given = given_of(alloc, &OPTIONS, arguments.words.as_slice())?;
+    let settings = settings_of(alloc, &given, arguments.is_verbose);
+    let files = both(cache_of(rt, &given), chosen_of(alloc, &given));
+    let ((settings, files), user) = both(both(settings, files), user_of(rt, &given))?;
     let services = services_of(alloc, &user.client, &given);
-    let (user, services) = both(Ok(user), services)?;
+    let ((user, (cache, chosen)), services) = both(Ok((user, files)), services)?;
     Ok(Login {
         user,
         services,
+        cache,
+        chosen,
         settings,
     })
 }
 
-fn settings_of<'a>(alloc: Global, given: &Given<'a>) -> Result<Settings<'a>, Stop> {
-    let files = both(cache_of(alloc, given), means_of(alloc, given));
+fn settings_of<'a>(
+    alloc: Global,
+    given: &Given<'a>,
+    is_verbose: bool,
+) -> Result<Settings<'a>, Stop> {
     let words = both(given.value(alloc, "-r"), given.moment(alloc, "-t"));
     let numbers = both(lifetime_of(alloc, given), words);
-    let ((cache, means), (lifetime, (words, moment))) = both(files, numbers)?;
+    let (means, (lifetime, (words, moment))) = both(means_of(alloc, given), numbers)?;
     Ok(Settings {
         means,
-        cache,
         lifetime,
         words: words.unwrap_or(WORDS),
         moment,
+        is_verbose,
     })
 }
 
-// The path of the cache.
-fn cache_of<'a>(alloc: Global, given: &Given<'a>) -> Result<&'a str, Stop> {
-    match given.value(alloc, "-c")? {
-        Some(cache) => Ok(path_of(cache)),
-        None => Err(usage(alloc, "expected: -c CACHE")),
+// The path of the cache: the one that is given, or that of the environment.
+fn cache_of(rt: &HostRuntime, given: &Given<'_>) -> Result<String, Stop> {
+    match given.value(rt.alloc(), "-c")? {
+        Some(cache) => named_cache(rt.alloc(), "-c", cache),
+        None => default_cache(rt),
     }
+}
+
+/// The path of a cache that an option or a variable names. Caches of other kinds than files are refused.
+pub(crate) fn named_cache(alloc: Global, place: &str, cache: &str) -> Result<String, Stop> {
+    match cache_path(cache) {
+        Some(path) if !path.is_empty() => Ok(String::from_str(alloc, path)?),
+        _ => Err(usage(
+            alloc,
+            format_args!("{place}: {cache:?} is no file: expected a path or FILE:PATH"),
+        )),
+    }
+}
+
+// The path of a cache, which may have its type in front, if that is a file.
+fn cache_path(word: &str) -> Option<&str> {
+    if word.starts_with('/') {
+        return Some(word);
+    }
+    match word.strip_prefix("FILE:") {
+        Some(path) => Some(path),
+        None if word.contains(':') => None,
+        None => Some(word),
+    }
+}
+
+// The suites that the user names, in their order.
+fn chosen_of(alloc: Global, given: &Given<'_>) -> Result<Vec<CipherSuite>, Stop> {
+    let mut chosen = Vec::new(alloc);
+    for name in given.values(alloc, "-e")? {
+        let Some(suite) = suite_named(name) else {
+            return Err(usage(
+                alloc,
+                format_args!("-e: {name:?} is no suite: expected one, as aes256-cts-hmac-sha1-96"),
+            ));
+        };
+        chosen.push(suite)?;
+    }
+    Ok(chosen)
 }
 
 fn means_of<'a>(alloc: Global, given: &Given<'a>) -> Result<Means<'a>, Stop> {
@@ -182,15 +280,30 @@ fn lifetime_of(alloc: Global, given: &Given<'_>) -> Result<u64, Stop> {
     }
 }
 
-fn user_of<'a>(alloc: Global, given: &Given<'a>) -> Result<User<'a>, Stop> {
+fn user_of<'a>(rt: &HostRuntime, given: &Given<'a>) -> Result<User<'a>, Stop> {
     let [argument] = given.words() else {
-        return Err(usage(alloc, "expected: one USER@REALM"));
+        return Err(usage(rt.alloc(), "expected: one USER@REALM"));
     };
-    let PrincipalText { components, realm } = principal_in(alloc, *argument)?;
-    let realm = realm.unwrap_or(Vec::new(alloc));
-    match Client::new(alloc, &realm, &components, CipherSuite::Aes256CtsHmacSha196) {
+    let PrincipalText { components, realm } = principal_in(rt.alloc(), *argument)?;
+    match realm {
+        Some(realm) => user_in(rt.alloc(), *argument, components, &realm),
+        None => {
+            let realm = default_realm(rt, *argument)?;
+            user_in(rt.alloc(), *argument, components, realm.as_bytes())
+        }
+    }
+}
+
+// The user of this name in a realm.
+fn user_in<'a>(
+    alloc: Global,
+    argument: &'a str,
+    components: Vec<Vec<u8>>,
+    realm: &[u8],
+) -> Result<User<'a>, Stop> {
+    match Client::new(alloc, realm, &components, CipherSuite::Aes256CtsHmacSha196) {
         Ok(client) => Ok(User {
-            argument: *argument,
+            argument,
             client,
             components,
         }),

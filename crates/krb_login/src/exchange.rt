@@ -1,28 +1,36 @@
 //! The AS exchange and the TGS exchanges of a login.
+//!
+//! No error of a KDC is authenticated, so no error brings a weaker request. The first AS request lists each suite that the client takes. By a
+//! key, an error that names one of them brings one further AS request, in that suite. Any other error ends the login.
 
 use crate::arguments::{Login, Service};
 use crate::certified::Certified;
 use crate::kdc::Kdc;
-use crate::secret::{SUITES, Secret, client_with};
+use crate::refusals::{kdc_refused, not_hinted};
+use crate::reports::{hint_text, outcome_text, suites_text};
+use crate::secret::{Secret, client_with};
 use krb_client::{AsAsked, AskRefusal, Client, Credential, Means, TakeRefusal};
 use krb_commands::{Stop, refused};
-use krb_constants::error_codes::KDC_ERR_ETYPE_NOSUPP;
 use krb_crypto::CipherSuite;
-use krb_etype_info::{HintRefusal, KeyHint, first_request, key_hint, key_hint_of_reply};
+use krb_etype_info::{
+    HintRefusal, KeyHint, as_request_of_suites, first_request, key_hint, key_hint_of_reply,
+    suite_of_reply, taken_of_suites, tgs_request_of_suites,
+};
 use krb_types::krbtgt;
 use result_pairs::both;
 use std::alloc::{AllocError, Global};
 
-/// The suites of a login by certificate, in the order in which they are asked for: those of AES.
-const CERTIFIED_SUITES: [CipherSuite; 4] = [
-    CipherSuite::Aes256CtsHmacSha196,
-    CipherSuite::Aes128CtsHmacSha196,
-    CipherSuite::Aes256CtsHmacSha384192,
-    CipherSuite::Aes128CtsHmacSha256128,
-];
-
 /// What a reply grants, or why it isn't taken.
 type Taken = Result<Credential, TakeRefusal>;
+
+/// What a request is for, in a line of `-v`, and the suites that it lists.
+#[derive(Clone, Copy)]
+struct Request<'a> {
+    /// The argument that names the user or the service.
+    name: &'a str,
+    title: &'a str,
+    suites: &'a [CipherSuite],
+}
 
 /// What the KDC answered to the request without padata.
 #[derive(Drop)]
@@ -40,11 +48,12 @@ pub(crate) fn authenticate_by_key(
     login: &Login<'_>,
     secret: &Secret,
 ) -> Result<Credential, Stop> {
-    let (service, suites) = both(granting_service(alloc, login), secret.suites(alloc))?;
+    let suites = secret.suites(alloc, login.wanted().suites());
+    let (service, suites) = both(granting_service(alloc, login), suites)?;
     let first = ask_first(alloc, kdc, login, &suites, &service)?;
     let taken = take_or_ask(alloc, kdc, login, secret, &service, &first);
     drop(first);
-    of_taking(alloc, login.user.argument, taken?)
+    of_taking(alloc, login, login.user.argument, taken?)
 }
 
 // Takes the KDC's answer if it is a reply. Else it sends the request with the padata of the client's key, and takes the reply to that.
@@ -58,14 +67,18 @@ fn take_or_ask(
 ) -> Result<Taken, Stop> {
     let (client, means) = secret.client(alloc, login, &first.hint)?;
     if first.is_reply {
-        Ok(client.take_as_reply(alloc, &means, &first.asked, &first.reply))
-    } else {
-        ask_with(alloc, kdc, login, &client, &means, service)
+        return Ok(client.take_as_reply(alloc, &means, &first.asked, &first.reply));
     }
+    let request = Request {
+        name: login.user.argument,
+        title: "AS-REQ with an encrypted timestamp",
+        suites: &[client.suite()],
+    };
+    let (asked, reply) = ask_with(alloc, kdc, request, &client, &means, service)?;
+    Ok(client.take_as_reply(alloc, &means, &asked, &reply))
 }
 
-/// Gets the ticket-granting ticket by certificate (RFC 4556, section 3.1). A request names one suite: the next one is asked for where the
-/// KDC takes none of it.
+/// Gets the ticket-granting ticket by certificate (RFC 4556, section 3.1), by one request that lists each suite.
 pub(crate) fn authenticate_by_certificate(
     alloc: Global,
     kdc: &mut Kdc<'_>,
@@ -73,26 +86,25 @@ pub(crate) fn authenticate_by_certificate(
     own: &Certified,
 ) -> Result<Credential, Stop> {
     let service = granting_service(alloc, login)?;
-    for suite in CERTIFIED_SUITES {
-        match ask_certified(alloc, kdc, login, own, &service, suite)? {
-            Err(TakeRefusal::Refused(code)) if code == KDC_ERR_ETYPE_NOSUPP => {}
-            taken => return of_taking(alloc, login.user.argument, taken),
-        }
-    }
-    let refusal = TakeRefusal::Refused(KDC_ERR_ETYPE_NOSUPP);
-    of_taking(alloc, login.user.argument, Err(refusal))
+    let request = Request {
+        name: login.user.argument,
+        title: "AS-REQ by certificate",
+        suites: login.wanted().suites(),
+    };
+    let means = own.means();
+    let (asked, reply) = ask_with(alloc, kdc, request, &login.user.client, &means, &service)?;
+    let client = client_of_reply(alloc, login, &reply)?;
+    let taken = client.take_as_reply(alloc, &means, &asked, &reply);
+    of_taking(alloc, login, login.user.argument, taken)
 }
 
-fn ask_certified(
-    alloc: Global,
-    kdc: &mut Kdc<'_>,
-    login: &Login<'_>,
-    own: &Certified,
-    service: &[Vec<u8>],
-    suite: CipherSuite,
-) -> Result<Taken, Stop> {
-    let client = client_with(alloc, login, suite)?;
-    ask_with(alloc, kdc, login, &client, &own.means(), service)
+// The client of the suite that the KDC chose. Where the answer is no reply of a listed suite, any client refuses it.
+fn client_of_reply(alloc: Global, login: &Login<'_>, reply: &[u8]) -> Result<Client, Stop> {
+    match suite_of_reply(alloc, login.wanted().suites(), reply) {
+        Ok(suite) => client_with(alloc, login, suite),
+        Err(HintRefusal::Unreadable) => client_with(alloc, login, login.user.client.suite()),
+        Err(refusal) => Err(not_hinted(alloc, login, refusal)),
+    }
 }
 
 // The name of the realm's ticket-granting service.
@@ -111,6 +123,11 @@ fn ask_first(
     suites: &[CipherSuite],
     service: &[Vec<u8>],
 ) -> Result<FirstAnswer, Stop> {
+    let request = Request {
+        name: login.user.argument,
+        title: "AS-REQ without padata",
+        suites,
+    };
     let occasion = kdc.occasion()?;
     let made = first_request(
         alloc,
@@ -121,9 +138,11 @@ fn ask_first(
         occasion.moment,
         &occasion.words,
     );
-    let (asked, reply) = ask(alloc, kdc, login.user.argument, made)?;
+    let (asked, reply) = ask(alloc, kdc, request, made)?;
     let hint = hint_of(alloc, login, suites, &reply);
     let ((asked, reply), (hint, is_reply)) = both(Ok((asked, reply)), hint)?;
+    let text = hint_text(alloc, &hint)?;
+    kdc.say(text.as_str());
     Ok(FirstAnswer {
         asked,
         reply,
@@ -148,34 +167,34 @@ fn hint_of(
     };
     match hinted {
         Ok(hint) => Ok((hint, false)),
-        Err(HintRefusal::Memory) => Err(Stop::Memory),
-        Err(refusal) => Err(refused(alloc, format_args!("{}: {refusal}", login.user.argument))),
+        Err(refusal) => Err(not_hinted(alloc, login, refusal)),
     }
 }
 
-// Sends the request with the padata of the client's means, and takes the reply.
+// Sends the request with the padata of the client's means. Returns what the client remembers of it, and the answer.
 fn ask_with<M: Means>(
     alloc: Global,
     kdc: &mut Kdc<'_>,
-    login: &Login<'_>,
+    request: Request<'_>,
     client: &Client,
     means: &M,
     service: &[Vec<u8>],
-) -> Result<Taken, Stop> {
+) -> Result<(AsAsked, Vec<u8>), Stop> {
     let occasion = kdc.occasion()?;
-    let made = client.as_request(
+    let made = as_request_of_suites(
         alloc,
+        client,
+        request.suites,
         means,
         service,
         occasion.till,
         occasion.moment,
         &occasion.words,
     );
-    let (asked, reply) = ask(alloc, kdc, login.user.argument, made)?;
-    Ok(client.take_as_reply(alloc, means, &asked, &reply))
+    ask(alloc, kdc, request, made)
 }
 
-/// Gets a ticket for a service. A request names one suite: the next one is asked for where the KDC has no key of it for the service.
+/// Gets a ticket for a service, by one request that lists each suite.
 pub(crate) fn ask_for_service(
     alloc: Global,
     kdc: &mut Kdc<'_>,
@@ -183,56 +202,66 @@ pub(crate) fn ask_for_service(
     granting: &Credential,
     service: &Service<'_>,
 ) -> Result<Credential, Stop> {
-    for suite in SUITES {
-        match ask_by_suite(alloc, kdc, login, granting, service, suite)? {
-            Err(TakeRefusal::Refused(code)) if code == KDC_ERR_ETYPE_NOSUPP => {}
-            taken => return of_taking(alloc, service.argument, taken),
-        }
-    }
-    let refusal = TakeRefusal::Refused(KDC_ERR_ETYPE_NOSUPP);
-    of_taking(alloc, service.argument, Err(refusal))
-}
-
-fn ask_by_suite(
-    alloc: Global,
-    kdc: &mut Kdc<'_>,
-    login: &Login<'_>,
-    granting: &Credential,
-    service: &Service<'_>,
-    suite: CipherSuite,
-) -> Result<Taken, Stop> {
-    let client = client_with(alloc, login, suite)?;
+    let request = Request {
+        name: service.argument,
+        title: "TGS-REQ",
+        suites: login.wanted().suites(),
+    };
+    let client = &login.user.client;
     let occasion = kdc.occasion()?;
-    let made = client.tgs_request(
+    let made = tgs_request_of_suites(
         alloc,
+        client,
+        request.suites,
         granting,
         &service.components,
         occasion.till,
         occasion.moment,
         &occasion.words,
     );
-    let (asked, reply) = ask(alloc, kdc, service.argument, made)?;
-    Ok(client.take_tgs_reply(alloc, &asked, &reply))
+    let (asked, reply) = ask(alloc, kdc, request, made)?;
+    let taken = client.take_tgs_reply(alloc, &asked, &reply);
+    of_taking(alloc, login, service.argument, taken)
 }
 
-// Sends a request, if it was made. Returns what the client remembers of it, and the reply.
+// Sends a request, if it was made. Returns what the client remembers of it, and the answer.
 fn ask<T: Drop>(
     alloc: Global,
     kdc: &mut Kdc<'_>,
-    name: &str,
+    request: Request<'_>,
     made: Result<(Vec<u8>, T), AskRefusal>,
 ) -> Result<(T, Vec<u8>), Stop> {
     match made {
-        Ok((request, asked)) => both(Ok(asked), kdc.ask(&request)),
+        Ok((octets, asked)) => both(Ok(asked), answer(alloc, kdc, request, &octets)),
         Err(AskRefusal::Memory) => Err(Stop::Memory),
-        Err(refusal) => Err(refused(alloc, format_args!("{name}: {refusal}"))),
+        Err(refusal) => Err(refused(alloc, format_args!("{}: {refusal}", request.name))),
     }
 }
 
-fn of_taking(alloc: Global, name: &str, taken: Taken) -> Result<Credential, Stop> {
-    match taken {
+// The KDC's answer to these octets. The user is told of both, if it wants to know.
+fn answer(
+    alloc: Global,
+    kdc: &mut Kdc<'_>,
+    request: Request<'_>,
+    octets: &[u8],
+) -> Result<Vec<u8>, Stop> {
+    let suites = suites_text(alloc, request.suites)?;
+    let reply = kdc.ask(octets)?;
+    let outcome = outcome_text(alloc, &reply)?;
+    let Request { name, title, .. } = request;
+    kdc.say(format_args!("{title} for {name:?}, etypes {suites}: {outcome}"));
+    Ok(reply)
+}
+
+// What is taken of a reply: nothing with a session key of a suite that wasn't listed.
+fn of_taking(
+    alloc: Global,
+    login: &Login<'_>,
+    name: &str,
+    taken: Taken,
+) -> Result<Credential, Stop> {
+    match taken_of_suites(login.wanted().suites(), taken) {
         Ok(credential) => Ok(credential),
-        Err(TakeRefusal::Memory) => Err(Stop::Memory),
-        Err(refusal) => Err(refused(alloc, format_args!("{name}: {refusal}"))),
+        Err(refusal) => Err(kdc_refused(alloc, login, name, refusal)),
     }
 }

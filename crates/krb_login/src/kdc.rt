@@ -8,6 +8,7 @@ use krb_commands::{Stop, failed};
 use krb_frames::{FRAME_LIMIT, ServeFault, read_frame, write_frame};
 use krb_time::{MICROSECONDS_IN_SECOND, Moment};
 use picky_asn1::date::GeneralizedTime;
+use std::fmt;
 use std::fs::{self, File};
 use std::io::{BufReader, Read, Stdin, Stdout};
 
@@ -27,6 +28,8 @@ pub(crate) struct Kdc<'a> {
     set_moment: Option<Moment>,
     /// For how many seconds tickets are asked for.
     lifetime: u64,
+    /// Whether it says what it asks and what the KDC answers.
+    is_verbose: bool,
 }
 
 /// The moment of a request, the end of the lifetime that it asks for, and its random octets.
@@ -52,6 +55,7 @@ impl<'a> Kdc<'a> {
             words_path: settings.words,
             set_moment: settings.moment,
             lifetime: settings.lifetime,
+            is_verbose: settings.is_verbose,
         })
     }
 
@@ -93,6 +97,14 @@ impl<'a> Kdc<'a> {
                 self.rt.alloc(),
                 "the clock can't be read: expected a time before the year 10000",
             )),
+        }
+    }
+
+    /// Says a line on standard error if the user wants to know. It shows no secret.
+    pub(crate) fn say<D: fmt::Display + Drop>(&self, line: D) {
+        if self.is_verbose {
+            // Where standard error takes nothing, the login goes on.
+            let _ = eprintln!(self.rt; "krb_login: {line}");
         }
     }
 

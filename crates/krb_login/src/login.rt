@@ -6,13 +6,17 @@ use crate::exchange::{ask_for_service, authenticate_by_certificate, authenticate
 use crate::kdc::Kdc;
 use crate::secret::{Secret, secret_of};
 use krb_client::Credential;
-use krb_commands::{FileKind, Stop, refused, write_file};
+use krb_commands::{FileKind, Stop, begin, refused, write_file};
 use krb_credential_caches::CacheWriteFault;
 use krb_login_caches::cache_of;
 use std::alloc::Global;
 
-/// Gets the tickets of a login, and writes the cache.
+/// Gets the tickets of a login, and writes the cache. It begins with a file beside the cache, which it takes away again: where none can be
+/// made, or what is there is no cache, no KDC is asked.
 pub(crate) fn log_in(rt: &HostRuntime, login: &Login<'_>) -> Result<(), Stop> {
+    let read = files_read(&login.settings);
+    let place = begin(rt, login.cache.as_str(), FileKind::Cache, &read)?;
+    place.discard(rt);
     match login.settings.means {
         Means::Key(file) => {
             let secret = secret_of(rt, login, file)?;
@@ -51,14 +55,8 @@ fn log_in_with(
     let further = tickets(rt.alloc(), kdc, login, granting)?;
     let octets = cached(rt.alloc(), login, granting, &further);
     drop(further);
-    let settings = &login.settings;
-    write_file(
-        rt,
-        settings.cache,
-        FileKind::Cache,
-        &files_read(settings),
-        &octets?,
-    )
+    let read = files_read(&login.settings);
+    write_file(rt, login.cache.as_str(), FileKind::Cache, &read, &octets?)
 }
 
 // The paths of the files that a login reads.
@@ -97,6 +95,6 @@ fn cached(
     match octets {
         Ok(octets) => Ok(octets),
         Err(CacheWriteFault::Memory) => Err(Stop::Memory),
-        Err(fault) => Err(refused(alloc, format_args!("{}: {fault}", login.settings.cache))),
+        Err(fault) => Err(refused(alloc, format_args!("{}: {fault}", login.cache))),
     }
 }

@@ -1,10 +1,11 @@
 //! What the client has its key of: a password, or the keys of a keytab.
 
 use crate::arguments::{KeyFile, Login};
+use crate::refusals::not_made;
 use krb_client::{ByKey, Client};
 use krb_commands::{Stop, failed, keytab_in, refused};
 use krb_crypto::{CipherSuite, Key};
-use krb_etype_info::{HintedClientRefusal, KeyHint, client_by_hint};
+use krb_etype_info::{KeyHint, client_by_hint, is_one_of};
 use krb_keytabs::KeytabRecord;
 use krb_types::{is_same_name, is_same_realm};
 use result_pairs::both;
@@ -14,15 +15,6 @@ use std::io::{self, ErrorKind, Read};
 
 /// How many octets a password may have.
 const PASSWORD_LIMIT: usize = 4_096;
-
-/// The suites that the client takes, in the order in which it lists them.
-pub(crate) const SUITES: [CipherSuite; 5] = [
-    CipherSuite::Aes256CtsHmacSha196,
-    CipherSuite::Aes128CtsHmacSha196,
-    CipherSuite::Aes256CtsHmacSha384192,
-    CipherSuite::Aes128CtsHmacSha256128,
-    CipherSuite::Des3CbcSha1Kd,
-];
 
 /// A password, or the client's records of a keytab.
 #[derive(Drop)]
@@ -84,17 +76,33 @@ fn first_line(octets: &[u8]) -> &[u8] {
 // The client's records of a keytab.
 fn records_in(rt: &HostRuntime, path: &str, login: &Login<'_>) -> Result<Secret, Stop> {
     let mut records = keytab_in(rt, path)?.into_records();
+    let user = login.user.argument;
     records.retain(|record| is_of(&login.user.client, record));
     if records.is_empty() {
         return Err(refused(
             rt.alloc(),
+            format_args!("{path}: expected a key of {user} of a known etype"),
+        ));
+    }
+    let suites = login.wanted().suites();
+    records.retain(|record| is_wanted(suites, record));
+    if records.is_empty() {
+        return Err(refused(
+            rt.alloc(),
             format_args!(
-                "{path}: expected a key of {} of a known etype",
-                login.user.argument
+                "{path}: no key of {user} is of a suite that is asked for: -e SUITE asks for others, as -e des3-cbc-sha1-kd"
             ),
         ));
     }
     Ok(Secret::Records(records))
+}
+
+// Whether a record's key is of one of these suites.
+fn is_wanted(suites: &[CipherSuite], record: &KeytabRecord) -> bool {
+    match record.cipher_key() {
+        Some(key) => is_one_of(suites, key.suite()),
+        None => false,
+    }
 }
 
 // Whether a record is of the client, and its key of a known suite.
@@ -105,12 +113,16 @@ fn is_of(client: &Client, record: &KeytabRecord) -> bool {
 }
 
 impl Secret {
-    /// The suites that the client takes: all by password, and those of its keys by keytab.
-    pub(crate) fn suites(&self, alloc: Global) -> Result<Vec<CipherSuite>, AllocError> {
+    /// Those of these suites of which the client has a key: all by password.
+    pub(crate) fn suites(
+        &self,
+        alloc: Global,
+        wanted: &[CipherSuite],
+    ) -> Result<Vec<CipherSuite>, AllocError> {
         let mut suites = Vec::new(alloc);
-        for suite in SUITES {
-            if self.has_suite(suite) {
-                suites.push(suite)?;
+        for suite in wanted {
+            if self.has_suite(*suite) {
+                suites.push(*suite)?;
             }
         }
         Ok(suites)
@@ -144,10 +156,16 @@ fn by_password(
     hint: &KeyHint,
 ) -> Result<(Client, ByKey), Stop> {
     let realm = login.user.client.realm().as_bytes();
-    match client_by_hint(alloc, realm, &login.user.components, password, hint) {
+    match client_by_hint(
+        alloc,
+        login.wanted(),
+        realm,
+        &login.user.components,
+        password,
+        hint,
+    ) {
         Ok(made) => Ok(made),
-        Err(HintedClientRefusal::Memory) => Err(Stop::Memory),
-        Err(refusal) => Err(refused(alloc, format_args!("{}: {refusal}", login.user.argument))),
+        Err(refusal) => Err(not_made(alloc, login, hint, refusal)),
     }
 }
 

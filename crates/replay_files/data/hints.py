@@ -2,6 +2,9 @@
 """Writes hints.txt: what MIT's krb5kdc and Heimdal's kdc answer to AS requests without padata, damaged copies of these answers, and what
 a client makes of each.
 
+A row's suites are those that the client lists. The word `usual` stands for the usual ones, and behind others it says that the user named none.
+A row of the kind `padata` or `service` has what a request ends with: its field req-body.
+
 The requests are of an encoder of this file, which shares no code with the program that replays the rows. The keys are those that the
 KDCs hold, by kadmin.local's `ktadd -norandkey` and Heimdal's `kadmin ext_keytab`, and the salts are read here, too. It needs Debian's
 krb5-kdc, krb5-admin-server, heimdal-kdc and heimdal-clients: installed, or unpacked (dpkg -x) in the folders that MIT and HEIMDAL name.
@@ -50,18 +53,22 @@ def principal(kind, components):
     return sequence(field(0, number(kind)), field(1, sequence(*(text(one) for one in components))))
 
 
-def request_of(realm, name, suites):
-    """An AS request without padata for a ticket of the realm's own service."""
-    body = sequence(
+def body_of(realm, name, service, suites):
+    """The body of a request for a service, which an AS request's client is named in."""
+    return sequence(
         field(0, element(3, bytes(5))),
-        field(1, principal(1, name)),
+        *([] if name is None else [field(1, principal(1, name))]),
         field(2, text(realm)),
-        field(3, principal(2, ["krbtgt", realm])),
+        field(3, principal(2, service)),
         field(5, element(0x18, TILL.encode())),
         field(7, number(NONCE)),
         field(8, sequence(*(number(suite) for suite in suites))),
     )
-    return element(0x6A, sequence(field(1, number(5)), field(2, number(10)), field(4, body)))
+
+
+def request_of(realm, name, suites):
+    """An AS request without padata for a ticket of the realm's own service."""
+    return element(0x6A, sequence(field(1, number(5)), field(2, number(10)), field(4, body_of(realm, name, ["krbtgt", realm], suites))))
 
 
 def parts_of(octets):
@@ -311,7 +318,7 @@ def main():
         several = ["many", "keys"]
         mit.add(several, ",".join(f"{SUITES[suite]}:normal" for suite in (18, 17, 20, 19, 16)))
         heimdal.add(several, list(SUITES))
-        for salt in ("norealm", "onlyrealm"):
+        for salt in ("norealm", "onlyrealm", "special"):
             mit.add([salt], f"{SUITES[18]}:{salt}")
         mit.add(["server", "host.example.com"], ",".join(f"{SUITES[suite]}:normal" for suite in SUITES), required=False)
         heimdal.add(["server", "host.example.com"], list(SUITES), required=False)
@@ -350,11 +357,55 @@ def record(rows, mit, heimdal, several):
         rows.put("unknown client", "error", ALL, ["nobody"], kdc.ask(request_of(REALM, ["nobody"], ALL)), "refused: Refused(6)")
         reply_rows(rows, kdc)
     changed_replies(rows, mit)
+    choice_rows(rows, mit, errors, keys)
     rows.put("error as reply", "reply", ALL, ["user18"], errors[18], "refused: Unreadable")
     for suite in SUITES:
         empty = with_methods(errors[18], [(19, info_of([(suite, b"", None)]))])
         rows.put(f"empty salt {NAMES[suite]}", "error", ALL, ["user18"], empty, made(suite, b"", mit.key_of_password(suite, "")))
     damaged_rows(rows, mit, errors, keys, others)
+
+
+def choice_rows(rows, mit, errors, keys):
+    """What a client takes whose user named no suite, and what it takes where the user did."""
+    usual, name, salt = ["usual"], ["user18"], b"EXAMPLE.COMuser18"
+
+    def by_info(*entries):
+        return with_methods(errors[18], [(19, info_of([(suite, its, None) for suite, its in entries]))])
+
+    def refused(label, octets, why):
+        rows.put(label, "error", usual, name, octets, f"refused: {why}")
+
+    for suite in (18, 17, 20, 19):
+        rows.put(f"usual, {NAMES[suite]}", "error", usual, [f"user{suite}"], errors[suite], made(suite, b"EXAMPLE.COMuser%d" % suite, keys[suite]))
+        refused("forged empty salt", by_info((suite, b"")), "OtherSalt")
+    rows.put("usual, no salt", "error", usual, name, by_info((18, None)), made(18, None, keys[18]))
+    refused("forged triple DES", by_info((16, b"")), "NoSuite")
+    refused("forged triple DES", by_info((16, salt)), "NoSuite")
+    rows.put("forged triple DES first", "error", usual, name, by_info((16, b""), (18, salt)), made(18, salt, keys[18]))
+    for other in (salt[:-1], salt + b"x", salt + b"\0", salt[1:], b"EXAMPLE.COM", b"user18", b"EXAMPLE.COMuser17", salt.lower(), b"EXAMPLE.COM/user18"):
+        refused("forged other salt", by_info((18, other)), "OtherSalt")
+    rows.put("hint of triple DES, not named", "error", [*ALL, "usual"], ["user16"], errors[16], "refused: OtherSuite")
+    for its in ("norealm", "special"):
+        error = mit.ask(request_of(REALM, [its], ALL))
+        (_, other, _), = entries_of(dict(methods_of(error))[19])
+        rows.put(f"mit {its}, not named", "error", usual, [its], error, "refused: OtherSalt")
+        rows.put(f"mit {its}, named", "error", [18], [its], error, made(18, other, mit.key_of([its], 18)))
+    name, ours = ["server", "host.example.com"], b"EXAMPLE.COMserverhost.example.com"
+    own, key = mit.ask(request_of(REALM, name, [18])), mit.key_of(name, 18)
+    rows.put("usual reply", "reply", usual, name, own, made(18, ours, key) + " granted krbtgt/EXAMPLE.COM")
+    forged = write_again(own, {2: method_data([(19, info_of([(18, b"", None)]))])})
+    rows.put("forged empty salt of a reply", "reply", usual, name, forged, "refused: OtherSalt")
+    weak = mit.ask(request_of(REALM, name, [16, 18]))
+    rows.put("reply of triple DES, not named", "reply", usual, name, weak, "refused: NoSuite")
+    rows.put("reply, session key of another suite", "reply", [16], name, weak, "refused: NotAsked")
+    rows.put("suite of a reply", "suite", [17, 18], name, own, "suite 18")
+    rows.put("suite of a reply, not listed", "suite", [17, 19], name, own, "refused: NoSuite")
+    rows.put("suite of an error", "suite", ALL, ["user18"], errors[18], "refused: Unreadable")
+    for suites in (ALL, [20], [18, 17]):
+        body = field(4, body_of(REALM, ["user18"], ["krbtgt", REALM], suites))
+        rows.put("request with padata", "padata", suites, ["user18"], b"", body.hex())
+    for suites in ([18, 17, 20, 19], [18], [17, 18, 16]):
+        rows.put("request for a service", "service", suites, name, own, field(4, body_of(REALM, None, name, suites)).hex())
 
 
 def changed_replies(rows, mit):
