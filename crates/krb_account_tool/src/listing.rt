@@ -42,21 +42,21 @@ fn print_text<D: Display + Drop>(rt: &HostRuntime, text: D) -> Result<(), Stop> 
 
 fn listed(rt: &HostRuntime, path: &str, pattern: Option<Pattern<'_>>) -> Result<String, Stop> {
     let lines = lines_of(rt, path)?;
-    let mut list = List {
+    let mut listing = Listing {
         alloc: rt.alloc(),
         has_header: !rt.stdout().is_terminal(),
         pattern,
         text: String::new(rt.alloc()),
     };
     for line in &lines {
-        list.put(line)?;
+        listing.put(line)?;
     }
-    Ok(list.text)
+    Ok(listing.text)
 }
 
 // What is listed so far.
 #[derive(Drop)]
-struct List<'a> {
+struct Listing<'a> {
     alloc: Global,
     // Whether a header is there, or none is wanted.
     has_header: bool,
@@ -64,7 +64,7 @@ struct List<'a> {
     text: String,
 }
 
-impl List<'_> {
+impl Listing<'_> {
     fn put(&mut self, line: &Line) -> Result<(), AllocError> {
         match line {
             Line::Comment(_) => Ok(()),
