@@ -1,8 +1,8 @@
 #!/bin/bash
 # krb_accounts is killed at each of its system calls, and writes to full disks. After each run a file is its old content or its new one, and
-# never another. Then it makes a database of 1,000,000 accounts by key, in less than 6 seconds of processor and 300 MB. It needs strace and
-# python3, and the program built (./krb_accounts --version) or KRB_ACCOUNTS=PROGRAM. The part of the small disk needs the right to mount, and
-# is left out without it.
+# never another. Before it, commands that would lose or weaken the realm's key are refused, and others print what they should. Then it makes a
+# database of 1,000,000 accounts by key, in less than 6 seconds of processor and 300 MB. It needs strace and python3, and the program built
+# (./krb_accounts --version) or KRB_ACCOUNTS=PROGRAM. The part of the small disk needs the right to mount, and is left out without it.
 set -e
 top=$(cd "$(dirname "$0")/.." && pwd)
 tool=${KRB_ACCOUNTS:-$top/crates/krb_account_tool/out/krb_account_tool}
@@ -17,6 +17,75 @@ echo $key | tr 0 f | "$tool" create accounts EXAMPLE.COM
 echo $key | tr 0 e | "$tool" add -k accounts user
 "$tool" make accounts accounts.cdb
 echo $key | tr 0 d | "$tool" add -k accounts other
+
+# says STATUS TEXT COMMAND..: the command ends with this status, and writes a line with this text on standard output or standard error. A
+# refused one changes no file.
+says() {
+    status=$1 text=$2; shift 2
+    before=$(cat -- accounts* 2>/dev/null | cksum) ended=0
+    line=$(echo "${input:-$key}" | "$tool" "$@" 2>&1) || ended=$?
+    [ "$ended" = "$status" ] || { echo "accounts_tool: $*: status $ended, and not $status: $line" >&2; exit 1; }
+    case $line in *"$text"*) ;; *) echo "accounts_tool: $*: expected '$text': $line" >&2; exit 1 ;; esac
+    [ "$ended" = 0 ] || [ "$before" = "$(cat -- accounts* 2>/dev/null | cksum)" ] || { echo "accounts_tool: $*: changed a file" >&2; exit 1; }
+    tried=$((tried + 1))
+}
+
+# the realm's own account, names of realms, salts and disabled accounts
+commands_answer() {
+    rm -rf "$work/run"; mkdir "$work/run"; cd "$work/run"
+    tried=0 own=krbtgt/EXAMPLE.COM
+    for realm in "EXAMPLE COM" EXAMPLE/COM 'EXAMPLE@COM' 'EXAMPLE#COM' 'EXAMPLE\COM' "$(printf 'EXAMPLE\001COM')" ""; do
+        says 1 "REALM: expected 1 to 255 printable ASCII characters" create accounts "$realm"
+    done
+    says 0 "" create -k random accounts EXAMPLE.COM
+    says 1 "is there" create -k random accounts EXAMPLE.COM
+    says 1 "$own: the account of the ticket-granting service is kept" remove accounts $own
+    says 1 "$own: the account of the ticket-granting service is kept" disable accounts $own
+    says 1 "$own: the realm's key is made of no password" key accounts $own
+    says 1 "$own: the account is there already" add -k random accounts $own
+    says 0 "" key -k random accounts $own
+    says 0 "$own	aes256-cts-hmac-sha1-96	2	key" list accounts
+    for suite in aes128-cts-hmac-sha1-96 aes256-cts-hmac-sha1-96 des3-cbc-sha1-kd aes128-cts-hmac-sha256-128 aes256-cts-hmac-sha384-192; do
+        says 0 "" add -e $suite -k random accounts $suite
+    done
+    python3 -c '
+import sys
+sizes = {"aes128-cts-hmac-sha1-96": 16, "aes256-cts-hmac-sha1-96": 32, "des3-cbc-sha1-kd": 24, "aes128-cts-hmac-sha256-128": 16, "aes256-cts-hmac-sha384-192": 32}
+keys = [bytes.fromhex(line.split()[4]) for line in open("accounts") if line.split()[0] in sizes]
+assert sorted(map(len, keys)) == sorted(sizes.values()) and len(set(keys)) == 5 and all(len(set(it)) > 4 for it in keys)
+assert all(bin(octet).count("1") % 2 == 1 for octet in next(it for it in keys if len(it) == 24))'
+    input="a long password" says 0 "" add accounts alice/admin
+    says 0 "alice/admin	aes256-cts-hmac-sha1-96	1	password" list accounts 'alice/*'
+    [ "$("$tool" list accounts 'a?ice*' | wc -l)" = 1 ] || { echo "accounts_tool: list with a pattern" >&2; exit 1; }
+    says 0 "salt	4558414d504c452e434f4d616c69636561646d696e" show accounts alice/admin
+    says 1 "nobody: no such account" show accounts nobody
+    for command in remove disable enable key; do says 1 "nobody: no such account" $command accounts nobody; done
+    says 0 "" disable accounts alice/admin
+    says 0 "password	disabled" list accounts 'alice/*'
+    says 1 "alice/admin: the account is there already" add accounts alice/admin
+    says 0 "" make accounts accounts.cdb
+    says 0 "" check accounts accounts.cdb
+    ! grep -q alice accounts.cdb || { echo "accounts_tool: a disabled account is in the database" >&2; exit 1; }
+    says 0 "" enable accounts alice/admin
+    says 1 "does not answer as accounts does" check accounts accounts.cdb
+    says 0 "" add -k accounts '#ops'
+    says 0 "#ops	" list accounts '#*'
+    says 0 "" make accounts accounts.cdb
+    sed "s/^$own/#disabled	&/" accounts >accounts_disabled
+    sed "/^krbtgt/d" accounts >accounts_without
+    sed "s/4558414d/4558418d/" accounts >accounts_salt
+    for command in "make T accounts.cdb" "check T accounts.cdb" "warnings T"; do
+        says 1 "the account of the ticket-granting service is disabled" ${command/T/accounts_disabled}
+        says 1 "accounts_without: expected a line of $own" ${command/T/accounts_without}
+    done
+    for command in "make T accounts.cdb" "check T accounts.cdb" "list T" "show T alice/admin" "key -k random T alice/admin" "remove T alice/admin"; do
+        says 1 "salt: expected octets below 128" ${command/T/accounts_salt}
+    done
+    says 0 "" add -k random accounts_without $own
+    says 0 "" make accounts_without accounts.cdb
+    echo "$tried commands answered as they should"
+}
+commands_answer
 
 # a run of a command in a fresh folder, of which FILE is the file that it writes
 in_folder() { rm -rf "$work/run"; cp -a "$work/start" "$work/run"; cd "$work/run"; }
@@ -55,7 +124,7 @@ refused_by_disk() {
     status=0
     line=$(echo $key | "$tool" "$@" 2>&1 | grep -v warning) || status=$?
     [ "$(judge "$file" "$* on a full disk")" = old ] || exit 1
-    [ -z "$(find . -maxdepth 1 -name ".$file.*.new")" ] || { echo "accounts_tool: a new file was left beside $file" >&2; exit 1; }
+    ! ls -A | grep -q "[.]new$" || { echo "accounts_tool: a new file was left beside $file" >&2; exit 1; }
     echo "$1: the old file, and: $line"
 }
 

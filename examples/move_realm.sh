@@ -44,11 +44,16 @@ mit_realm() {
     admin "cpw -keepold -randkey HTTP/$host"
     admin "ktadd -norandkey -k $work/host.keytab host/$host"
     admin "ktadd -norandkey -k $work/http.keytab HTTP/$host"
+    admin "addprinc -pw \"$password\" locked"
+    admin "modprinc -allow_tix locked"
+    admin "addprinc -pw \"$password\" expired"
+    admin "modprinc -expire 2020-01-01 expired"
     admin "ktadd -norandkey -k $work/all.keytab -glob *"
+    mit kdb5_util dump "$work/all.dump"
 }
 
 moved() {
-    "$top/examples/mit_accounts" "$work/all.keytab" EXAMPLE.COM "$work/accounts"
+    "$top/examples/mit_accounts" "$work/all.keytab" "$work/all.dump" EXAMPLE.COM "$work/accounts"
 }
 
 log_in() {
@@ -63,7 +68,7 @@ opened_by() {
 mit_realm >>"$work/log" 2>&1
 kill "$bridge" 2>/dev/null
 bridge=
-try "a text of MIT's keys" yes "" moved
+try "a text of MIT's keys" yes "locked is locked .*disabled" moved
 try "not over a text that is there" no "is there already" moved
 try "the text" yes "changed.*[[:space:]]2[[:space:]]key" "$KRB_ACCOUNTS" list "$work/accounts"
 try "the database" yes "" "$KRB_ACCOUNTS" make "$work/accounts" "$work/accounts.cdb"
@@ -73,6 +78,9 @@ configuration "127.0.0.1:$port" "" >"$work/mit.conf"
 
 for user in user changed user-b user/admin small new; do
     try "kinit of $user" yes "" log_in "$user"
+done
+for user in locked expired; do
+    try "not $user" no "" log_in "$user"
 done
 try "not with an older password" no "" typed old mit kinit changed
 try "a ticket opens by the old keytab" yes "keytab entry valid" opened_by "$work/host.keytab" "host/$host"

@@ -4,6 +4,7 @@ import os, struct, subprocess, sys, tempfile, unittest
 
 TOOL = os.path.join(os.path.dirname(os.path.abspath(__file__)), "mit_accounts")
 KRBTGT = (b"krbtgt", b"R")
+DUMP = b"kdb5_util load_dump version 7\n"
 
 
 def counted(octets):
@@ -25,6 +26,11 @@ def keytab(*records):
     return b"\5\2" + b"".join(records)
 
 
+def princ(name, flags=0, expiry=0, password_expiry=0, realm="R"):
+    """A principal's line of a dump, as kdb5_util writes it, with no lists."""
+    return f"princ\t38\t{len(name) + 2}\t0\t0\t0\t{name}@{realm}\t{flags}\t86400\t0\t{expiry}\t{password_expiry}\t0\t0\t0\t\n".encode()
+
+
 def key(number, size=32):
     return bytes([number]) * size
 
@@ -35,27 +41,31 @@ class MitAccounts(unittest.TestCase):
         self.addCleanup(self.folder.cleanup)
         self.text = os.path.join(self.folder.name, "accounts")
 
-    def run_tool(self, octets, realm="R"):
-        path = os.path.join(self.folder.name, "keytab")
-        with open(path, "wb") as file:
+    def run_tool(self, octets, dump=None, options=()):
+        """Runs the script over a keytab of these octets. The dump has each of its names, without flags, unless it is given."""
+        keytab, dumped = (os.path.join(self.folder.name, name) for name in ("keytab", "dump"))
+        names = "a b a-b a/c \\#a a\\/b\\@c\\\\d\\te/f#g krbtgt/R".split() + ["a\\/b\\@c\\\\d\\te/f g", "#a"]
+        with open(keytab, "wb") as file:
             file.write(octets)
-        return subprocess.run([sys.executable, "-B", TOOL, path, realm, self.text], capture_output=True, text=True)
+        with open(dumped, "wb") as file:
+            file.write(DUMP + b"".join(map(princ, names)) if dump is None else dump)
+        return subprocess.run([sys.executable, "-B", TOOL, *options, keytab, dumped, "R", self.text], capture_output=True, text=True)
 
-    def made(self, *records):
-        ended = self.run_tool(keytab(record(KRBTGT, 1, 18, key(9)), *records))
-        self.assertEqual((ended.returncode, ended.stderr), (0, ""))
+    def made(self, *records, told="", dump=None, options=()):
+        ended = self.run_tool(keytab(record(KRBTGT, 1, 18, key(9)), *records), dump, options)
+        self.assertEqual((ended.returncode, ended.stderr), (0, told))
         with open(self.text, encoding="ascii") as file:
             lines = file.read().split("\n")
         self.assertEqual((lines[0], lines[-1]), ("realm\tR\t300\t36000", ""))
         return [line for line in lines[1:-1] if not line.startswith("krbtgt")]
 
-    def refused(self, octets, says, status=1):
-        ended = self.run_tool(octets)
+    def refused(self, octets, says, status=1, dump=None):
+        ended = self.run_tool(octets, dump)
         self.assertEqual(ended.returncode, status)
         self.assertIn(says, ended.stderr)
         self.assertEqual(ended.stderr.count("\n"), 1)
         self.assertNotIn("01" * 16, ended.stderr)
-        self.assertEqual(os.listdir(self.folder.name), ["keytab"])
+        self.assertEqual(sorted(os.listdir(self.folder.name)), ["dump", "keytab"])
 
     def test_line(self):
         self.assertEqual(self.made(record((b"a",), 2, 18, key(1))), ["a\taes256-cts-hmac-sha1-96\t2\t-\t" + "01" * 32])
@@ -88,6 +98,29 @@ class MitAccounts(unittest.TestCase):
         lines = self.made(record((b"a/b@c\\d\te", b"f g"), 1, 18, key(1)))
         self.assertEqual(lines[0].split("\t")[0], "a\\/b\\@c\\\\d\\te/f g")
 
+    def test_name_that_begins_as_a_comment(self):
+        self.assertEqual(self.made(record((b"#a",), 1, 18, key(1)))[0].split("\t")[0], "\\#a")
+
+    def test_locked_and_expired(self):
+        states = {"a": (0x40, 0, 0), "b": (0, 1577836800, 0), "c": (0, 0, 1577836800), "d": (0x200, 0, 0), "e": (0, 4070908800, 4070908800), "f": (0x1000, 0, 0)}
+        dump = DUMP + b"".join(princ(name, *state) for name, state in states.items()) + princ("krbtgt/R")
+        records = [record((name.encode(),), 1, 18, key(1)) for name in states]
+        said = "mit_accounts: {} is locked (DISALLOW_ALL_TIX): {how}\nmit_accounts: {} has expired (2020-01-01): {how}\n"
+        said += "mit_accounts: c has an expired password (2020-01-01): enabled\nmit_accounts: d has to change its password: enabled\n"
+        lines = self.made(*records, told=said.format("a", "b", how="disabled"), dump=dump)
+        self.assertEqual([line.split("\taes")[0] for line in lines], ["#disabled\ta", "#disabled\tb", "c", "d", "e", "f"])
+        os.unlink(self.text)
+        lines = self.made(*records, told=said.format("a", "b", how="enabled"), dump=dump, options=["--all"])
+        self.assertEqual([line.split("\t")[0] for line in lines], list(states))
+
+    def test_dumps(self):
+        whole = keytab(record(KRBTGT, 1, 18, key(1)))
+        self.refused(whole, "dump: it is no dump of kdb5_util", dump=b"")
+        self.refused(whole, "dump: expected a line of krbtgt/R", dump=DUMP + princ("krbtgt/R", realm="S"))
+        self.refused(whole, "dump: krbtgt/R is locked (DISALLOW_ALL_TIX): expected", dump=DUMP + princ("krbtgt/R", 0x40))
+        self.refused(whole, "dump: expected lines of princ, 38 and numbers", dump=DUMP + princ("krbtgt/R").replace(b"\t38\t", b"\t39\t"))
+        self.refused(whole, "dump: expected lines of princ, 38 and numbers", dump=DUMP + b"princ\t38\t1\n")
+
     def test_mode(self):
         self.made()
         self.assertEqual(os.stat(self.text).st_mode & 0o777, 0o600)
@@ -101,7 +134,6 @@ class MitAccounts(unittest.TestCase):
         first = record(KRBTGT, 1, 18, key(1))
         self.refused(keytab(first, record((b"a",), 2, 23, key(1, 16)), record((b"a",), 1, 18, key(1))), "a: expected a key of AES or triple DES with kvno 2")
         self.refused(keytab(first, record((b"a",), 1, 18, key(1, 16))), "a: expected a key")
-        self.refused(keytab(first, record((b"#a",), 1, 18, key(1))), "#a: a line that begins with #")
         self.refused(keytab(first, record((b"\xc3\xa4",), 1, 18, key(1))), "characters of ASCII")
         self.refused(keytab(first, record((b"",), 1, 18, key(1))), "1 to 16 components")
         self.refused(keytab(first, record((b"a",), 0, 18, key(1))), "a: expected a kvno from 1 on")
@@ -113,7 +145,7 @@ class MitAccounts(unittest.TestCase):
         self.assertIn("it is there already", ended.stderr)
 
     def test_arguments_and_files(self):
-        for words, status in ((["--help"], 0), ([], 2), (["/nowhere/keytab", "R", self.text], 2)):
+        for words, status in ((["--help"], 0), ([], 2), (["/nowhere/keytab", "/nowhere/dump", "R", self.text], 2)):
             self.assertEqual(subprocess.run([sys.executable, "-B", TOOL, *words], capture_output=True).returncode, status)
 
 

@@ -1,17 +1,17 @@
 -- What is written of a line is read as that line.
-use Rattle.std.proofs.Common.{◌≡◌, ℕ, ◌/◌, ◌<◌, ◌≤◌, ◌^◌, ◌==◌, ◌&&◌, nat_eq, nat_le, not, Bool, true, false, List, [], ◌∷◌, ◌++◌, length, slice_index, codes, Option, None, Some, Ok, IsTrue, refl, ap, ◌∙◌, arith}
+use Rattle.std.proofs.Common.{◌≡◌, inl, inr, cond, ℕ, zero, suc, ◌/◌, ◌<◌, ◌≤◌, ◌^◌, ◌==◌, ◌&&◌, nat_eq, nat_le, not, Bool, true, false, List, [], ◌∷◌, ◌++◌, length, slice_index, codes, Option, None, Some, Ok, IsTrue, refl, ap, sym, subst, ◌∙◌, arith}
 use Rattle.std.specs.List.{list_all}
 use Rattle.std.specs.Option.{option_map}
 use Rattle.std.proofs.lemmas.List.{append-nil}
 use Rattle.std.specs.Fmt.{decimal}
 use Rattle.std.specs.Cmp.Lexicographic.{pointwise}
-use Rattle.std.proofs.lemmas.Bool.{and_parts}
-use Rattle.std.proofs.lemmas.Bool.Decides.{nat_tests}
+use Rattle.std.proofs.lemmas.Bool.{and_parts, ltb-true}
+use Rattle.std.proofs.lemmas.Bool.Decides.{eqb_tells, nat_tests}
 use Rattle.hex.specs.Hex.{IsBytes, encode_lower, encode_with, lower_digits}
 use Rattle.hex.proofs.HexLemmas.{decode_of-encode_lower}
 use Rattle.picky_asn1.specs.Bytes.{Bytes}
 use Rattle.krb_types.specs.NameText.{name_text}
-use Rattle.krb_types.specs.NameReading.{are_ascii, is_ascii}
+use Rattle.krb_types.specs.NameReading.{are_ascii, components_in, is_ascii}
 use Rattle.krb_types.proofs.PrintedNames.{name-read}
 use Rattle.krb_accounts.specs.Account.{AccountRecord}
 use Rattle.krb_accounts.specs.Names.{AreComponents, is_realm_name}
@@ -20,11 +20,11 @@ use Rattle.krb_crypto.specs.Suites.{cipher_key_size}
 use Rattle.krb_crypto.specs.declared.suite.CipherSuite.{CipherSuite}
 use Rattle.krb_crypto.specs.declared.suite.CipherSuite.TheVariants.{Aes128CtsHmacSha196, Aes256CtsHmacSha196, Des3CbcSha1Kd, Aes128CtsHmacSha256128, Aes256CtsHmacSha384192}
 use Rattle.krb_settings.specs.Fields.{suite_name}
-use Rattle.krb_account_texts.specs.Lines.{WrittenLine, comment, realm, account, account_text, line_text, realm_text, salt_text}
-use Rattle.krb_account_texts.specs.Reading.{account_in, fields, is_printed, judged_kvno, judged_name, key_in, kvno_in, line_in, line_of, name_in, realm_in, realm_name_in, salt_in, seconds_in, settings_of, suite_in}
-use Rattle.krb_account_texts.specs.Writable.{IsAccount, IsComment, IsRealm, IsWritable, AreSaltBytes}
+use Rattle.krb_account_texts.specs.Lines.{WrittenLine, comment, realm, account, account_fields, disabled_mark, guarded, line_text, realm_text, salt_text}
+use Rattle.krb_account_texts.specs.Reading.{account_in, disabled_of, fields, is_disabled, is_printed, judged_kvno, judged_name, key_in, kvno_in, line_in, line_of, name_in, realm_in, realm_name_in, salt_in, seconds_in, settings_of, suite_in}
+use Rattle.krb_account_texts.specs.Writable.{IsAccount, IsComment, IsRealm, IsSalt, IsWritable}
 use Rattle.krb_account_texts.proofs.Numbers.{decimal-read}
-use Rattle.krb_account_texts.proofs.Plain.{all-both, is_all_plain, is_plain, no_feed, no_tab, plain-decimal, plain-hex, plain-name, plain-suite, split-last, split-part}
+use Rattle.krb_account_texts.proofs.Plain.{all-both, all-cons, is_all_plain, is_plain, no_feed, no_tab, plain-decimal, plain-hex, plain-name, plain-suite, split-last, split-part}
 
 -- names
 ascii-realm : (name : Bytes) → IsTrue (is_realm_name name) → IsTrue (is_ascii name)
@@ -45,6 +45,37 @@ name-again [] are = cc are
 name-again (first ∷ further) are =
     let ascii = ascii-name (first ∷ further) are in
     ap judged_name (name-read first further ascii) ∙ rw are refl
+
+-- a name where a line begins: a backslash before a `#` counts for nothing
+guarded-read : (text : List ℕ) → name_in (guarded text) ≡ name_in text
+unfolding name_in components_in
+guarded-read [] = refl
+guarded-read (c ∷ text) = elim (eqb_tells c 35) [
+  | inl mark ↦ subst (λ (first : ℕ). name_in (guarded (first ∷ text)) ≡ name_in (first ∷ text)) (sym mark.1) refl
+  | inr other ↦ rw other.0 refl
+]
+
+first-again : (name : List Bytes) → AreComponents name → name_in (guarded (name_text name)) ≡ Ok name
+first-again name are = guarded-read (name_text name) ∙ name-again name are
+
+-- the octet with which an account's fields begin is no `#`
+begins-otherwise : (text more : List ℕ) → (slice_index (guarded text ++ 9 ∷ more) 0 == 35) ≡ false
+begins-otherwise [] more = refl
+begins-otherwise (c ∷ text) more = elim (eqb_tells c 35) [
+  | inl mark ↦ subst (λ (first : ℕ). (slice_index (guarded (first ∷ text) ++ 9 ∷ more) 0 == 35) ≡ false) (sym mark.1) refl
+  | inr other ↦ rw other.0 other.0
+]
+
+unmarked : (text : List ℕ) → (slice_index text 0 == 35) ≡ false → is_disabled text ≡ false
+unmarked [] other = refl
+unmarked (c ∷ text) other = let apart : nat_eq 35 c ≡ false = grind (arith, nat_tests) in rw apart refl
+
+plain-marked : (b : Bool) (text : List ℕ) → is_all_plain text ≡ true → is_all_plain (cond b (92 ∷ text) text) ≡ true
+plain-marked true text plain = all-cons is_plain 92 text refl plain
+plain-marked false text plain = plain
+
+plain-first : (name : List Bytes) → AreComponents name → is_all_plain (guarded (name_text name)) ≡ true
+plain-first name are = plain-marked (slice_index (name_text name) 0 == 35) (name_text name) (plain-name name (ascii-name name are))
 
 -- suites
 pub suite-again : (suite : CipherSuite) → suite_in (suite_name suite) ≡ Ok suite
@@ -71,10 +102,17 @@ unfolding encode_with
 no-dash [] = refl
 no-dash (octet ∷ salt) = and-none (nat_eq (slice_index lower_digits (octet / 16)) 45)
 
-pub salt-again : (salt : Option Bytes) → AreSaltBytes salt → salt_in (salt_text salt) ≡ Ok salt
+ascii-bytes : (octets : Bytes) → IsTrue (is_ascii octets) → IsBytes octets
+ascii-bytes [] ascii i = omega arith
+ascii-bytes (octet ∷ octets) ascii zero =
+    let below : octet < 128 = ltb-true octet 128 (and_parts _ _ ascii).0 in
+    omega arith
+ascii-bytes (octet ∷ octets) ascii (suc i) = ascii-bytes octets (and_parts _ _ ascii).1 i
+
+pub salt-again : (salt : Option Bytes) → IsSalt salt → salt_in (salt_text salt) ≡ Ok salt
 unfolding salt_in
-salt-again None bytes = refl
-salt-again (Some salt) bytes = rw (no-dash salt, decode_of-encode_lower salt bytes) refl
+salt-again None is = refl
+salt-again (Some salt) is = rw (no-dash salt, decode_of-encode_lower salt (ascii-bytes salt is), is) refl
 
 -- keys
 pub key-again : (suite : CipherSuite) (key : Bytes) → length key ≡ cipher_key_size suite → IsBytes key → key_in suite (encode_lower key) ≡ Ok key
@@ -83,11 +121,11 @@ key-again suite key size bytes =
     let fits : (length key == cipher_key_size suite) ≡ true = grind (arith, nat_tests) in
     rw (decode_of-encode_lower key bytes, fits) refl
 
-account-again : (name : List Bytes) (own : AccountRecord) → IsAccount name own
-    → account_in (name_text name) (suite_name own.suite) (decimal own.kvno) (salt_text own.salt) (encode_lower own.key) ≡ Ok (account name own)
+account-again : (is_off : Bool) (name : List Bytes) (own : AccountRecord) → IsAccount name own
+    → account_in is_off (guarded (name_text name)) (suite_name own.suite) (decimal own.kvno) (salt_text own.salt) (encode_lower own.key) ≡ Ok (account name own is_off)
 unfolding account_in
-account-again name own is =
-    rw (name-again name is.name_is, suite-again own.suite, kvno-again own.kvno is.from_one is.kvno_fits, salt-again own.salt is.salt_bytes, key-again own.suite own.key is.key_size is.key_bytes) refl
+account-again is_off name own is =
+    rw (first-again name is.name_is, suite-again own.suite, kvno-again own.kvno is.from_one is.kvno_fits, salt-again own.salt is.salt_is, key-again own.suite own.key is.key_size is.key_bytes) refl
 
 -- the parts of an account's line
 abbrev is_tab : ℕ → Bool
@@ -103,24 +141,33 @@ plain-salt : (salt : Option Bytes) → is_all_plain (salt_text salt) ≡ true
 plain-salt None = refl
 plain-salt (Some salt) = plain-hex salt
 
-account-fields : (name : List Bytes) (own : AccountRecord) → IsAccount name own
-    → fields (account_text name own) ≡ name_text name ∷ suite_name own.suite ∷ decimal own.kvno ∷ salt_text own.salt ∷ encode_lower own.key ∷ []
-account-fields name own is =
+account-parts : (name : List Bytes) (own : AccountRecord) → IsAccount name own
+    → fields (account_fields name own) ≡ guarded (name_text name) ∷ suite_name own.suite ∷ decimal own.kvno ∷ salt_text own.salt ∷ encode_lower own.key ∷ []
+account-parts name own is =
+    let first : List ℕ = guarded (name_text name) in
     let salt : List ℕ = salt_text own.salt in
     let key : List ℕ = encode_lower own.key in
     let kvno : List ℕ = decimal own.kvno in
     let suite : List ℕ = suite_name own.suite in
-    tab-part (name_text name) (suite ++ 9 ∷ (kvno ++ 9 ∷ (salt ++ 9 ∷ key))) (plain-name name (ascii-name name is.name_is))
-    ∙ ap (λ parts. name_text name ∷ parts)
+    tab-part first (suite ++ 9 ∷ (kvno ++ 9 ∷ (salt ++ 9 ∷ key))) (plain-first name is.name_is)
+    ∙ ap (λ parts. first ∷ parts)
     (tab-part suite (kvno ++ 9 ∷ (salt ++ 9 ∷ key)) (plain-suite own.suite)
     ∙ ap (λ parts. suite ∷ parts)
     (tab-part kvno (salt ++ 9 ∷ key) (plain-decimal own.kvno (omega (arith, is.kvno_fits)))
     ∙ ap (λ parts. kvno ∷ parts)
     (tab-part salt key (plain-salt own.salt) ∙ ap (λ parts. salt ∷ parts) (tab-last key (plain-hex own.key)))))
 
-account-line : (name : List Bytes) (own : AccountRecord) → IsAccount name own → line_in (account_text name own) ≡ Ok (account name own)
+account-line : (name : List Bytes) (own : AccountRecord) → IsAccount name own → line_in (account_fields name own) ≡ Ok (account name own false)
 unfolding line_in
-account-line name own is = rw is.begins (ap line_of (account-fields name own is) ∙ account-again name own is)
+account-line name own is =
+    let text : List ℕ = account_fields name own in
+    let more : List ℕ = suite_name own.suite ++ 9 ∷ (decimal own.kvno ++ 9 ∷ (salt_text own.salt ++ 9 ∷ encode_lower own.key)) in
+    let begins : (slice_index text 0 == 35) ≡ false = begins-otherwise (name_text name) more in
+    rw (unmarked text begins, begins) (ap line_of (account-parts name own is) ∙ account-again false name own is)
+
+disabled-line : (name : List Bytes) (own : AccountRecord) → IsAccount name own → line_in (disabled_mark ++ account_fields name own) ≡ Ok (account name own true)
+unfolding line_in
+disabled-line name own is = ap disabled_of (account-parts name own is) ∙ account-again true name own is
 
 -- the realm's line
 printed-plain : (c : ℕ) → nat_le 32 c ≡ true → is_plain c ≡ true
@@ -197,12 +244,13 @@ comment-line : (text : Bytes) → IsComment text → line_in text ≡ Ok (commen
 unfolding line_in
 comment-line text is =
     let begins : (slice_index text 0 == 35) ≡ true = rw is.begins refl in
-    rw begins refl
+    rw (is.unmarked, begins) refl
 
 pub line-again : (line : WrittenLine) → IsWritable line → line_in (line_text line) ≡ Ok line
 line-again (comment text) is = comment-line text is
 line-again (realm name settings pkinit) is = realm-line name settings pkinit is
-line-again (account name own) is = account-line name own is
+line-again (account name own true) is = disabled-line name own is
+line-again (account name own false) is = account-line name own is
 
 -- a plain text has no line feed
 fed-plain : (text : List ℕ) → is_all_plain text ≡ true → list_all (λ octet. not (octet == 10)) text ≡ true
@@ -236,11 +284,15 @@ realm-fed name settings (Some octets) is =
     realm-front name settings (Some octets) is (9 ∷ (codes "pkinit" ++ 9 ∷ digits))
     (fed-part lifetime (codes "pkinit" ++ 9 ∷ digits) (plain-lifetime name settings (Some octets) is) (fed-part (codes "pkinit") digits refl (fed-plain digits (plain-hex octets))))
 
-pub line-fed : (line : WrittenLine) → IsWritable line → list_all (λ octet. not (octet == 10)) (line_text line) ≡ true
-line-fed (comment text) is = is.line
-line-fed (realm name settings pkinit) is = realm-fed name settings pkinit is
-line-fed (account name own) is =
-    fed-part (name_text name) (suite_name own.suite ++ 9 ∷ (decimal own.kvno ++ 9 ∷ (salt_text own.salt ++ 9 ∷ encode_lower own.key))) (plain-name name (ascii-name name is.name_is))
+fields-fed : (name : List Bytes) (own : AccountRecord) → IsAccount name own → list_all (λ octet. not (octet == 10)) (account_fields name own) ≡ true
+fields-fed name own is =
+    fed-part (guarded (name_text name)) (suite_name own.suite ++ 9 ∷ (decimal own.kvno ++ 9 ∷ (salt_text own.salt ++ 9 ∷ encode_lower own.key))) (plain-first name is.name_is)
     (fed-part (suite_name own.suite) (decimal own.kvno ++ 9 ∷ (salt_text own.salt ++ 9 ∷ encode_lower own.key)) (plain-suite own.suite)
     (fed-part (decimal own.kvno) (salt_text own.salt ++ 9 ∷ encode_lower own.key) (plain-decimal own.kvno (omega (arith, is.kvno_fits)))
     (fed-part (salt_text own.salt) (encode_lower own.key) (plain-salt own.salt) (fed-plain (encode_lower own.key) (plain-hex own.key)))))
+
+pub line-fed : (line : WrittenLine) → IsWritable line → list_all (λ octet. not (octet == 10)) (line_text line) ≡ true
+line-fed (comment text) is = is.line
+line-fed (realm name settings pkinit) is = realm-fed name settings pkinit is
+line-fed (account name own true) is = all-both (λ octet. not (octet == 10)) disabled_mark (account_fields name own) refl (fields-fed name own is)
+line-fed (account name own false) is = fields-fed name own is

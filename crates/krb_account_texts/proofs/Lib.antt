@@ -6,3 +6,5 @@ pub mod Loops
 pub mod Places
 pub mod Ended
 pub mod Orders
+pub mod Rows
+pub mod Read

@@ -3,10 +3,11 @@ use Rattle.std.proofs.Common.{◌≡◌, ℕ, zero, suc, ◌+◌, ◌<◌, Bool,
 use Rattle.std.specs.Prelude.{OnOk}
 use Rattle.std.specs.List.{insert, position_from, remove}
 use Rattle.std.proofs.lemmas.List.{take-append-drop}
-use Rattle.krb_account_texts.specs.Edits.{HasCertified, HasChanged, HasOneLess, HasOneMore, certified, is_line_of, is_name_spent, is_realm, is_spent, place_of, realm_place}
+use Rattle.krb_account_texts.specs.Edits.{HasCertified, HasChanged, HasOneLess, HasOneMore, certified, is_line_of, is_name_spent, is_realm, is_service_of, is_spent, leaving, place_of, realm_place, staying}
 use Rattle.krb_account_texts.specs.declared.edits.EditRefusal.{EditRefusal}
-use Rattle.krb_account_texts.specs.declared.edits.EditRefusal.TheVariants.{Exists, Memory, NumberSpent, Unknown}
+use Rattle.krb_account_texts.specs.declared.edits.EditRefusal.TheVariants.{Exists, KeptAccount, Memory, NumberSpent, Unknown}
 use Rattle.krb_account_texts.specs.declared.line.Line.{Line}
+use Rattle.krb_account_texts.specs.Order.{realm_among}
 use Rattle.picky_asn1.specs.Bytes.{Bytes}
 
 -- a list, and what it is after a write, by its parts
@@ -128,3 +129,17 @@ spent-there r false found same is = (λ e. let both : Ok tt ≡ Err NumberSpent 
 
 pub unknown-there : (r : Result (Unit {0}) EditRefusal) (found : Bool) → r ≡ Err Unknown → found ≡ false → (r ≡ Err NumberSpent) ↔ (found ≡ true)
 unknown-there r found is none = (λ e. let both : Err Unknown ≡ Err NumberSpent = sym is ∙ e in absurd (cc (both)), λ e. absurd (cc (none, e)))
+
+-- whether an account may leave the database, by its place
+pub leaving-there : (name : List Bytes) (lines : List Line) (place : ℕ) (is_kept : Bool) → place_of name lines ≡ Some place → is_service_of (realm_among lines) name ≡ is_kept
+    → leaving name lines ≡ (if is_kept then Err KeptAccount else Ok tt)
+leaving-there name lines place is_kept found kept = rw (found, kept) refl
+
+pub leaving-none : (name : List Bytes) (lines : List Line) → place_of name lines ≡ None → leaving name lines ≡ Err Unknown
+leaving-none name lines none = rw none refl
+
+pub staying-there : (name : List Bytes) (lines : List Line) (place : ℕ) → place_of name lines ≡ Some place → staying name lines ≡ Ok tt
+staying-there name lines place found = rw found refl
+
+pub staying-none : (name : List Bytes) (lines : List Line) → place_of name lines ≡ None → staying name lines ≡ Err Unknown
+staying-none name lines none = rw none refl

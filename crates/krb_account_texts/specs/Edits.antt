@@ -1,12 +1,17 @@
 -- Changes of the line of one account.
-use Rattle.std.specs.Prelude.{◌≡◌, ℕ, ◌+◌, ◌==◌, Bool, true, false, if◌then◌else◌, List, [], ◌++◌, ◌∷◌, Option}
+use Rattle.std.specs.Prelude.{◌≡◌, ℕ, ◌+◌, ◌==◌, Bool, true, false, if◌then◌else◌, List, [], ◌++◌, ◌∷◌, Option, None, Some, is_some, Result, Ok, Err}
 use Rattle.std.specs.List.{position_from}
 use Rattle.picky_asn1.specs.Bytes.{Bytes}
 use Rattle.krb_types.specs.Names.{is_same_name}
+use Rattle.krb_types.specs.TicketGranting.{krbtgt_of}
 use Rattle.krb_accounts.specs.Account.{AccountRecord}
 use Rattle.krb_crypto.specs.declared.suite.CipherSuite.{CipherSuite}
+use Rattle.krb_account_texts.specs.Order.{realm_among}
+use Rattle.krb_account_texts.specs.declared.edits.EditRefusal.{EditRefusal}
+use Rattle.krb_account_texts.specs.declared.edits.EditRefusal.TheVariants as refusal
 use Rattle.krb_account_texts.specs.declared.line.Line.{Line}
 use Rattle.krb_account_texts.specs.declared.line.Line.TheVariants as line
+use Rattle.krb_account_texts.specs.declared.line.RealmLine.{RealmLine}
 
 -- The line is that of the account of this name.
 abbrev pub is_line_of : List Bytes → Line → Bool
@@ -35,10 +40,34 @@ HasOneLess name old new =
 abbrev pub next_account : CipherSuite → Bytes → Option Bytes → AccountRecord → AccountRecord
 next_account suite key salt own = record { suite = suite; key = key; kvno = own.kvno + 1; salt = salt }
 
--- The line of an account with its next key. The name stays.
+-- The line of an account with its next key. The name stays, and whether it is disabled.
 abbrev pub rekeyed : CipherSuite → Bytes → Option Bytes → Line → Line
-rekeyed suite key salt (line.Account own) = line.Account (record { name = own.name; account = next_account suite key salt own.account })
+rekeyed suite key salt (line.Account own) = line.Account (record { name = own.name; account = next_account suite key salt own.account; is_disabled = own.is_disabled })
 rekeyed suite key salt other = other
+
+-- The name is that of the ticket-granting service of this realm.
+abbrev pub is_krbtgt : Bytes → List Bytes → Bool
+is_krbtgt realm name = is_same_name name (krbtgt_of realm)
+
+-- The name is that of the ticket-granting service of the realm of this line, if there is one.
+abbrev pub is_service_of : Option RealmLine → List Bytes → Bool
+is_service_of None name = false
+is_service_of (Some own) name = is_krbtgt own.name name
+
+-- Whether the name has an account.
+abbrev pub staying : List Bytes → List Line → Result (Unit {0}) EditRefusal
+staying name lines = if is_some (place_of name lines) then Ok tt else Err refusal.Unknown
+
+-- Whether the account of this name may leave the database, in the order of refusals. That of the ticket-granting service is kept.
+abbrev pub leaving : List Bytes → List Line → Result (Unit {0}) EditRefusal
+leaving name lines =
+    if is_some (place_of name lines) then (if is_service_of (realm_among lines) name then Err refusal.KeptAccount else Ok tt)
+    else Err refusal.Unknown
+
+-- The line of an account that is disabled or isn't. Name and account stay.
+abbrev pub marked : Bool → Line → Line
+marked is_disabled (line.Account own) = line.Account (record { name = own.name; account = own.account; is_disabled = is_disabled })
+marked is_disabled other = other
 
 -- The realm's line with what logins by certificate are answered by, or with nothing. Name and settings stay.
 abbrev pub certified : Option Bytes → Line → Line

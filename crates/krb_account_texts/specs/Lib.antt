@@ -4,3 +4,5 @@ pub mod Reading
 pub mod Edits
 pub mod Order
 pub mod Writable
+pub mod Typed
+pub mod Patterns

@@ -1,6 +1,6 @@
 -- The lines of a text of accounts, and what each is written as. A tab (9) is between each two fields, and a line feed (10) after each
 -- line.
-use Rattle.std.specs.Prelude.{ℕ, List, [], ◌∷◌, ◌++◌, codes, string_bytes, Option, None, Some}
+use Rattle.std.specs.Prelude.{ℕ, ◌==◌, Bool, if◌then◌else◌, List, [], ◌∷◌, ◌++◌, slice_index, codes, string_bytes, Option, None, Some}
 use Rattle.std.specs.List.{flat_map}
 use Rattle.std.specs.Fmt.{decimal}
 use Rattle.hex.specs.Hex.{encode_lower}
@@ -12,17 +12,18 @@ use Rattle.krb_settings.specs.Fields.{suite_name}
 use Rattle.krb_account_texts.specs.declared.line.Line.{Line}
 use Rattle.krb_account_texts.specs.declared.line.Line.TheVariants as line
 
--- a comment, the realm's name, its settings and what logins by certificate are answered by, or an account's name and what the realm knows of it
+-- a comment, the realm's name, its settings and what logins by certificate are answered by, or an account's name, what the realm knows of it, and
+-- whether it is disabled
 pub data WrittenLine : Type 0 where
   comment : Bytes → WrittenLine
   realm : Bytes → SettingsRecord → Option Bytes → WrittenLine
-  account : List Bytes → AccountRecord → WrittenLine
+  account : List Bytes → AccountRecord → Bool → WrittenLine
 
 -- What a line of the program says.
 abbrev pub written : Line → WrittenLine
 written (line.Comment text) = comment (string_bytes text)
 written (line.Realm own) = realm own.name own.settings own.pkinit
-written (line.Account own) = account own.name.name_string.0 own.account
+written (line.Account own) = account own.name.name_string.0 own.account own.is_disabled
 
 -- The salt in hexadecimal digits, or `-` if there is none.
 abbrev pub salt_text : Option Bytes → List ℕ
@@ -37,16 +38,28 @@ realm_text name settings None =
 realm_text name settings (Some octets) =
     codes "realm" ++ (codes "\t" ++ (name ++ (codes "\t" ++ (decimal settings.skew ++ (codes "\t" ++ (decimal settings.lifetime ++ (codes "\tpkinit\t" ++ encode_lower octets)))))))
 
--- An account's line: the name as RFC 1964 writes it (section 2.1.3), the suite, the kvno, the salt and the key.
-abbrev pub account_text : List Bytes → AccountRecord → List ℕ
-account_text name own =
-    name_text name ++ (codes "\t" ++ (suite_name own.suite ++ (codes "\t" ++ (decimal own.kvno ++ (codes "\t" ++ (salt_text own.salt ++ (codes "\t" ++ encode_lower own.key)))))))
+-- The text of a name where a line begins: a backslash (92) precedes a `#` (35), with which a comment would begin.
+abbrev pub guarded : List ℕ → List ℕ
+guarded text = if slice_index text 0 == 35 then 92 ∷ text else text
+
+-- An account's fields: the name as RFC 1964 writes it (section 2.1.3), the suite, the kvno, the salt and the key.
+abbrev pub account_fields : List Bytes → AccountRecord → List ℕ
+account_fields name own =
+    guarded (name_text name) ++ (codes "\t" ++ (suite_name own.suite ++ (codes "\t" ++ (decimal own.kvno ++ (codes "\t" ++ (salt_text own.salt ++ (codes "\t" ++ encode_lower own.key)))))))
+
+-- What the line of a disabled account begins with.
+abbrev pub disabled_mark : List ℕ
+disabled_mark = codes "#disabled\t"
+
+-- An account's line: its fields, behind the mark where it is disabled.
+abbrev pub account_text : List Bytes → AccountRecord → Bool → List ℕ
+account_text name own is_disabled = if is_disabled then disabled_mark ++ account_fields name own else account_fields name own
 
 -- the text of a line, without its line feed
 abbrev pub line_text : WrittenLine → List ℕ
 line_text (comment text) = text
 line_text (realm name settings pkinit) = realm_text name settings pkinit
-line_text (account name own) = account_text name own
+line_text (account name own is_disabled) = account_text name own is_disabled
 
 -- Each line, and a line feed after it.
 abbrev pub text_of : List WrittenLine → List ℕ

@@ -1,10 +1,10 @@
 -- How a text of accounts is read.
-use Rattle.std.specs.Prelude.{ℕ, ◌+◌, ◌-◌, ◌*◌, ◌==◌, ◌&&◌, ◌||◌, nat_eq, nat_lt, nat_le, Bool, if◌then◌else◌, List, [], ◌∷◌, length, take, slice_index, slice_index_or, codes, Option, None, Some, option_and_then, ok_or, Result, Ok, Err}
-use Rattle.std.specs.List.{find, list_all, slice_split}
+use Rattle.std.specs.Prelude.{ℕ, ◌+◌, ◌-◌, ◌*◌, ◌==◌, ◌&&◌, ◌||◌, nat_eq, nat_lt, nat_le, Bool, true, false, if◌then◌else◌, List, [], ◌∷◌, length, take, slice_index, slice_index_or, codes, drop, Option, None, Some, option_and_then, ok_or, Result, Ok, Err}
+use Rattle.std.specs.List.{find, list_all, slice_split, starts_with}
 use Rattle.std.specs.Cmp.Lexicographic.{pointwise}
 use Rattle.hex.specs.Hex.{decode_of}
 use Rattle.picky_asn1.specs.Bytes.{Bytes}
-use Rattle.krb_types.specs.NameReading.{components_in}
+use Rattle.krb_types.specs.NameReading.{components_in, is_ascii}
 use Rattle.krb_types.specs.declared.name_reading.NameTextFault.{NameTextFault}
 use Rattle.krb_accounts.specs.Names.{are_components, is_realm_name}
 use Rattle.krb_accounts.specs.Settings.{SettingsRecord}
@@ -12,7 +12,7 @@ use Rattle.krb_accounts.specs.declared.settings.TheConstants.{LIFETIME_LIMIT, SK
 use Rattle.krb_crypto.specs.declared.suite.CipherSuite.{CipherSuite}
 use Rattle.krb_crypto.specs.Suites.{cipher_key_size, cipher_suites}
 use Rattle.krb_settings.specs.Fields.{suite_name}
-use Rattle.krb_account_texts.specs.Lines.{WrittenLine, comment, realm, account}
+use Rattle.krb_account_texts.specs.Lines.{WrittenLine, comment, realm, account, disabled_mark}
 use Rattle.krb_account_texts.specs.Steps.{◌>>=◌, each_from}
 use Rattle.krb_account_texts.specs.declared.fields.TheConstants.{NUMBER_LIMIT}
 use Rattle.krb_account_texts.specs.declared.fault.LineFault.{LineFault}
@@ -66,13 +66,13 @@ abbrev pub octets_told : {E : Type 0} → LineFault → Result (List ℕ) E → 
 octets_told otherwise (Ok octets) = Ok octets
 octets_told otherwise (Err _) = Err otherwise
 
--- The salt of these octets.
-abbrev pub some_octets : List ℕ → Result (Option Bytes) LineFault
-some_octets octets = Ok (Some octets)
+-- The salt of these octets, each of which is below 128: ETYPE-INFO2 has it in a KerberosString (RFC 4120, sections 5.2.1 and 5.2.7.5).
+abbrev pub some_salt : List ℕ → Result (Option Bytes) LineFault
+some_salt octets = if is_ascii octets then Ok (Some octets) else Err fault.SaltOctet
 
 -- The salt that hexadecimal digits write, or none for `-`.
 unfoldable pub salt_in : List ℕ → Result (Option Bytes) LineFault
-salt_in text = if pointwise nat_eq text (codes "-") then Ok None else octets_told fault.Salt (decode_of text) >>= some_octets
+salt_in text = if pointwise nat_eq text (codes "-") then Ok None else octets_told fault.Salt (decode_of text) >>= some_salt
 
 -- A key of its suite's length.
 abbrev pub sized_key : CipherSuite → List ℕ → Result Bytes LineFault
@@ -82,15 +82,15 @@ sized_key suite octets = if length octets == cipher_key_size suite then Ok octet
 unfoldable pub key_in : CipherSuite → List ℕ → Result Bytes LineFault
 key_in suite text = octets_told fault.Key (decode_of text) >>= sized_key suite
 
--- The account's line of these fields, or the first fault in their order.
-unfoldable pub account_in : List ℕ → List ℕ → List ℕ → List ℕ → List ℕ → Result WrittenLine LineFault
-account_in name suite kvno salt key = do
+-- The account's line of these fields, disabled or not, or the first fault in their order.
+unfoldable pub account_in : Bool → List ℕ → List ℕ → List ℕ → List ℕ → List ℕ → Result WrittenLine LineFault
+account_in is_disabled name suite kvno salt key = do
   own_name ← name_in name
   own_suite ← suite_in suite
   own_kvno ← kvno_in kvno
   own_salt ← salt_in salt
   own_key ← key_in own_suite key
-  Ok (account own_name (record { suite = own_suite; key = own_key; kvno = own_kvno; salt = own_salt }))
+  Ok (account own_name (record { suite = own_suite; key = own_key; kvno = own_kvno; salt = own_salt }) is_disabled)
 
 -- No character is below 32 (space).
 abbrev pub is_printed : Bytes → Bool
@@ -133,12 +133,23 @@ abbrev pub line_of : List (List ℕ) → Result WrittenLine LineFault
 line_of (word ∷ name ∷ skew ∷ lifetime ∷ []) = if pointwise nat_eq word (codes "realm") then realm_in name skew lifetime None else Err fault.Fields
 line_of (word ∷ name ∷ skew ∷ lifetime ∷ further ∷ digits ∷ []) =
     if pointwise nat_eq word (codes "realm") && pointwise nat_eq further (codes "pkinit") then realm_in name skew lifetime (Some digits) else Err fault.Fields
-line_of (name ∷ suite ∷ kvno ∷ salt ∷ key ∷ []) = account_in name suite kvno salt key
+line_of (name ∷ suite ∷ kvno ∷ salt ∷ key ∷ []) = account_in false name suite kvno salt key
 line_of _ = Err fault.Fields
 
--- A line that begins with `#` (35) is a comment.
+-- The line of a disabled account, of these fields.
+abbrev pub disabled_of : List (List ℕ) → Result WrittenLine LineFault
+disabled_of (name ∷ suite ∷ kvno ∷ salt ∷ key ∷ []) = account_in true name suite kvno salt key
+disabled_of _ = Err fault.DisabledFields
+
+-- The text begins with the mark of a disabled account: `#disabled` and a tab.
+abbrev pub is_disabled : List ℕ → Bool
+is_disabled text = starts_with nat_eq text disabled_mark
+
+-- A line that begins with the mark of a disabled account is the line of one. Another one that begins with `#` (35) is a comment.
 unfoldable pub line_in : List ℕ → Result WrittenLine LineFault
-line_in text = if slice_index text 0 == 35 then Ok (comment text) else line_of (fields text)
+line_in text =
+    if is_disabled text then disabled_of (fields (drop (length disabled_mark) text))
+    else (if slice_index text 0 == 35 then Ok (comment text) else line_of (fields text))
 
 -- The result of reading the line of this number. Its fault names the number, unless memory ran out.
 abbrev pub at_line : {A : Type 0} → ℕ → Result A LineFault → Result A TextFault

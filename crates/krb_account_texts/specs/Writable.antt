@@ -7,12 +7,14 @@ use Rattle.krb_crypto.specs.Suites.{cipher_key_size}
 use Rattle.krb_accounts.specs.Account.{AccountRecord}
 use Rattle.krb_accounts.specs.Names.{AreComponents, IsRealmName}
 use Rattle.krb_accounts.specs.Settings.{AreSettings, SettingsRecord}
-use Rattle.krb_account_texts.specs.Lines.{WrittenLine, comment, realm, account, account_text}
-use Rattle.krb_account_texts.specs.Reading.{is_printed}
+use Rattle.krb_types.specs.NameReading.{is_ascii}
+use Rattle.krb_account_texts.specs.Lines.{WrittenLine, comment, realm, account}
+use Rattle.krb_account_texts.specs.Reading.{is_disabled, is_printed}
 
--- A comment begins with `#` and has no line feed.
+-- A comment begins with `#`, not with the mark of a disabled account, and has no line feed.
 pub record IsComment (text : Bytes) : Type 0 where
   pub begins : slice_index text 0 ≡ 35
+  pub unmarked : is_disabled text ≡ false
   pub line : IsTrue (list_all (λ octet. not (octet == 10)) text)
 
 -- Logins by certificate are answered by one octet or more, if they are.
@@ -27,25 +29,24 @@ pub record IsRealm (name : Bytes) (settings : SettingsRecord) (pkinit : Option B
   pub settings_are : AreSettings settings.skew settings.lifetime
   pub pkinit_are : ArePkinitBytes pkinit
 
-abbrev pub AreSaltBytes : Option Bytes → Type 0
-AreSaltBytes None = Unit {0}
-AreSaltBytes (Some salt) = IsBytes salt
+-- A salt's octets are below 128, if there is one.
+abbrev pub IsSalt : Option Bytes → Type 0
+IsSalt None = Unit {0}
+IsSalt (Some salt) = IsTrue (is_ascii salt)
 
--- An account has a principal's name, a key of its suite's length and a kvno from 1 to 2^32 - 1. Its line doesn't begin with `#`, since it
--- would be a comment.
+-- An account has a principal's name, a key of its suite's length, a salt whose octets are below 128 or none, and a kvno from 1 to 2^32 - 1.
 pub record IsAccount (name : List Bytes) (own : AccountRecord) : Type 0 where
   pub name_is : AreComponents name
-  pub begins : (slice_index (account_text name own) 0 == 35) ≡ false
   pub key_size : length own.key ≡ cipher_key_size own.suite
   pub key_bytes : IsBytes own.key
-  pub salt_bytes : AreSaltBytes own.salt
+  pub salt_is : IsSalt own.salt
   pub from_one : 1 ≤ own.kvno
   pub kvno_fits : own.kvno < 2 ^ 32
 
 abbrev pub IsWritable : WrittenLine → Type 0
 IsWritable (comment text) = IsComment text
 IsWritable (realm name settings pkinit) = IsRealm name settings pkinit
-IsWritable (account name own) = IsAccount name own
+IsWritable (account name own is_disabled) = IsAccount name own
 
 -- each line of the list can be written
 abbrev pub AreWritable : List WrittenLine → Type 0

@@ -1,14 +1,15 @@
 //! Changes of the line of one account, and of the realm.
-ghost use Rattle.std.specs.Prelude.{◌≡◌, ◌<◌, ◌↔◌, ◌⊎◌, true, length, if◌then◌else◌, IfErr, IfSome, IsSome, OnOk, OnErr, None, Ok, Err};
+ghost use Rattle.std.specs.Prelude.{◌≡◌, ◌<◌, ◌↔◌, ◌⊎◌, true, false, length, if◌then◌else◌, IfErr, IfOk, IfSome, Some, IsSome, OnOk, OnErr, None, Ok, Err};
 ghost use Rattle.std.specs.List.{insert};
-ghost use Rattle.krb_account_texts.specs.Edits.{HasCertified, HasChanged, HasOneLess, HasOneMore, certified, is_line_of, is_name_spent, is_realm, is_spent, place_of, realm_place, rekeyed};
+ghost use Rattle.std.specs.Option.{option_map};
+ghost use Rattle.krb_account_texts.specs.Edits.{HasCertified, HasChanged, HasOneLess, HasOneMore, certified, is_krbtgt, is_line_of, is_name_spent, is_realm, is_service_of, is_spent, leaving, marked, place_of, realm_place, rekeyed, staying};
 ghost use Rattle.krb_account_texts.specs.Order.{place_for};
 
-use crate::line::{AccountLine, Line};
-use crate::order::place_for;
+use crate::line::{AccountLine, Line, RealmLine};
+use crate::order::{place_for, realm_among};
 use krb_accounts::Account;
 use krb_crypto::Key;
-use krb_types::is_same_name;
+use krb_types::{is_same_name, krbtgt};
 use picky_asn1::wrapper::{GeneralStringAsn1, OctetStringAsn1};
 use std::alloc::{AllocError, AllocFailed};
 use thiserror::Error;
@@ -22,6 +23,9 @@ pub enum EditRefusal {
     /// No account has that name.
     #[error("no such account")]
     Unknown,
+    /// The account is that of the realm's own ticket-granting service, and is kept.
+    #[error("the account of the ticket-granting service is kept")]
+    KeptAccount,
     /// The kvno is the greatest, and none follows.
     #[error("kvno 4294967295 is the greatest: expected a new name")]
     NumberSpent,
@@ -86,7 +90,7 @@ pub fn add(lines: &mut Vec<Line>, account: AccountLine) -> Result<(), EditRefusa
     Ok(())
 }
 
-/// Gives the account of a name its next key, with the next kvno and this salt. All other lines stay.
+/// Gives the account of a name its next key, with the next kvno and this salt. One that is disabled stays so. All other lines stay.
 ///
 /// It is refused as `Unknown` if and only if the name has no account, and as `NumberSpent` if and only if its kvno is the greatest.
 pub fn change_key(
@@ -124,18 +128,86 @@ fn rekey(line: &mut Line, key: Key, salt: Option<OctetStringAsn1>) -> Result<(),
     Ok(())
 }
 
-/// Takes the line of the account of a name away. All other lines stay. It is refused as `Unknown` if the name has no account.
+/// Takes the line of the account of a name away, but never that of the realm's own ticket-granting service. All other lines stay.
+///
+/// It is refused, in this order: `Unknown`, `KeptAccount`.
 pub fn remove(lines: &mut Vec<Line>, name: &[GeneralStringAsn1]) -> Result<(), EditRefusal>
     ensures ok { OnOk result (HasOneLess name.now lines.old.items lines.new.items) }
-    ensures unknown { (result ≡ Err EditRefusal.Unknown) ↔ (place_of name.now lines.old.items ≡ None) }
-    ensures refusal { IfErr result (λ e. e ≡ EditRefusal.Unknown) }
+    ensures refusal { result ≡ leaving name.now lines.old.items }
+    ensures err { OnErr result (lines.new.items ≡ lines.old.items) }
+{
+    let place = leaving(lines, name)?;
+    let _line = lines.remove(place);
+    Ok(())
+}
+
+/// Disables the account of a name, but never that of the realm's own ticket-granting service: it has no record in a database, and keeps its
+/// line. All other lines stay.
+///
+/// It is refused, in this order: `Unknown`, `KeptAccount`.
+pub fn disable(lines: &mut Vec<Line>, name: &[GeneralStringAsn1]) -> Result<(), EditRefusal>
+    ensures ok { OnOk result (HasChanged name.now (marked true) lines.old.items lines.new.items) }
+    ensures refusal { result ≡ leaving name.now lines.old.items }
+    ensures err { OnErr result (lines.new.items ≡ lines.old.items) }
+{
+    let place = leaving(lines, name)?;
+    mark(&mut lines[place], true);
+    Ok(())
+}
+
+/// Enables the account of a name. All other lines stay. It is refused as `Unknown` if and only if the name has no account.
+pub fn enable(lines: &mut Vec<Line>, name: &[GeneralStringAsn1]) -> Result<(), EditRefusal>
+    ensures ok { OnOk result (HasChanged name.now (marked false) lines.old.items lines.new.items) }
+    ensures refusal { result ≡ staying name.now lines.old.items }
     ensures err { OnErr result (lines.new.items ≡ lines.old.items) }
 {
     let Some(place) = place_of(lines, name) else {
         return Err(EditRefusal::Unknown);
     };
-    let _line = lines.remove(place);
+    mark(&mut lines[place], false);
     Ok(())
+}
+
+fn mark(line: &mut Line, is_disabled: bool)
+    ensures { line.new ≡ marked is_disabled line.old }
+{
+    let Line::Account(own) = line else {
+        return;
+    };
+    own.is_disabled = is_disabled;
+}
+
+// The place of the account of a name, if it may leave the database.
+fn leaving(lines: &[Line], name: &[GeneralStringAsn1]) -> Result<usize, EditRefusal>
+    ensures ok { IfOk result (λ place. (place_of name.now lines.now ≡ Some place) × (place < length lines.now) × (leaving name.now lines.now ≡ Ok tt)) }
+    ensures err { IfErr result (λ e. leaving name.now lines.now ≡ Err e) }
+{
+    let Some(place) = place_of(lines, name) else {
+        return Err(EditRefusal::Unknown);
+    };
+    if is_service_of(realm_among(lines), name) {
+        return Err(EditRefusal::KeptAccount);
+    }
+    Ok(place)
+}
+
+fn is_service_of(realm: Option<&RealmLine>, name: &[GeneralStringAsn1]) -> bool
+    ensures { result ≡ is_service_of (option_map (λ realm. realm.now) realm.entry) name.now }
+{
+    match realm {
+        Some(own) => is_krbtgt(own.name.as_bytes(), name),
+        None => false,
+    }
+}
+
+/// Whether a name is that of the ticket-granting service of the realm of this name (RFC 4120, section 7.3).
+pub fn is_krbtgt(realm: &[u8], name: &[GeneralStringAsn1]) -> bool
+    ensures { result ≡ is_krbtgt realm.now name.now }
+{
+    let [first, second] = name else {
+        return false;
+    };
+    first.as_bytes() == krbtgt() && second.as_bytes() == realm
 }
 
 /// Gives the realm what its logins by certificate are answered by, or takes it away. All other lines stay. It is refused as `Unknown` only if

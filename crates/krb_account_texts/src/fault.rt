@@ -12,6 +12,9 @@ pub enum LineFault {
     /// The line has another number of fields, or four or six of which the first isn't `realm`, or six of which the fifth isn't `pkinit`.
     #[error("expected name, suite, kvno, salt and key, or realm, name, skew and lifetime, and perhaps pkinit and its octets, with a tab between each two")]
     Fields,
+    /// Behind the mark of a disabled account, `#disabled` and a tab, the line has another number of fields.
+    #[error("expected name, suite, kvno, salt and key behind #disabled, with a tab between each two")]
+    DisabledFields,
     /// The name is none of a principal.
     #[error("name: expected 1 to 16 components of 1 to 255 ASCII characters, with / between each two")]
     Name,
@@ -24,6 +27,9 @@ pub enum LineFault {
     /// The salt isn't pairs of hexadecimal digits.
     #[error("salt: expected pairs of hexadecimal digits, or - for none")]
     Salt,
+    /// The salt has an octet from 128 on, which no ETYPE-INFO2 has.
+    #[error("salt: expected octets below 128")]
+    SaltOctet,
     /// The key isn't as many pairs of hexadecimal digits as its suite's keys have octets.
     #[error("key: expected as many hexadecimal digits as a key of the suite has: 32, 48 or 64")]
     Key,

@@ -7,6 +7,7 @@ ghost use Rattle.hex.specs.Hex.{decode_of};
 ghost use Rattle.krb_accounts.specs.Names.{parts};
 ghost use Rattle.krb_crypto.specs.Suites.{cipher_suites};
 ghost use Rattle.krb_settings.specs.Fields.{suite_name};
+ghost use Rattle.krb_types.specs.NameReading.{is_ascii};
 ghost use Rattle.krb_account_texts.specs.Lines.{WrittenLine};
 ghost use Rattle.krb_account_texts.specs.Reading.{digits_behind, is_printed, key_in, judged_name, kvno_in, name_in, next_number, number_in, octets_told, pkinit_in, realm_name_in, salt_in, seconds_in, settings_of, sized_key, suite_in};
 ghost use Rattle.krb_account_texts.specs.Steps.{IsAside};
@@ -115,7 +116,7 @@ fn next_number(number: u64, digit: u8) -> Option<u64>
     }
 }
 
-/// A salt in hexadecimal digits, or none for `-`.
+/// A salt in hexadecimal digits, each of whose octets is below 128, or none for `-`.
 #[tactic(auto, unfolding(crate::specs::Reading::salt_in))]
 pub(crate) fn salt_of(alloc: Global, text: &str) -> Result<Option<OctetStringAsn1>, LineFault>
     ensures { IsAside LineFault.Memory (λ salt. salt) (salt_in text.now) result }
@@ -124,7 +125,16 @@ pub(crate) fn salt_of(alloc: Global, text: &str) -> Result<Option<OctetStringAsn
         return Ok(None);
     }
     let octets = octets_of(alloc, text, LineFault::Salt)?;
+    if !is_ascii(&octets) {
+        return Err(LineFault::SaltOctet);
+    }
     Ok(Some(OctetStringAsn1::from(octets)))
+}
+
+fn is_ascii(octets: &[u8]) -> bool
+    ensures { result ≡ is_ascii octets.now }
+{
+    octets.iter().all(|octet| *octet < 128)
 }
 
 /// The key of a suite that hexadecimal digits write. It is refused as `Key` if they are not as many as the suite's keys have.

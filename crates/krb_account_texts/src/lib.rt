@@ -4,18 +4,20 @@
 //! # comments are kept
 //! realm    EXAMPLE.COM    300    36000    pkinit    3082..
 //! host/server.example.com    aes256-cts-hmac-sha1-96    1    -    (64 hexadecimal digits)
+//! #disabled    other    aes256-cts-hmac-sha1-96    2    -    (64 hexadecimal digits)
 //! user    aes128-cts-hmac-sha256-128    3    4558..    (32 hexadecimal digits)
 //! ```
 //!
 //! A tab, and no blank, is between each two fields. An account's are its name as RFC 1964 writes it, the suite, the kvno, the salt or
-//! `-`, and the key. The realm's are its name, the clock skew and the greatest lifetime of a ticket, both in seconds. Where logins by
+//! `-`, and the key. Behind the word `#disabled` they are a disabled account's. The realm's are its name, the clock skew and the greatest lifetime of a ticket, both in seconds. Where logins by
 //! certificate are answered, the word `pkinit` follows, and what they are answered by. `specs/Lines` has what each line is written as, and
 //! `specs/Reading` how a text is read.
 //!
 //! [`read_lines`] returns the lines that a text writes, or its first fault with the number of its line. [`text_of`] writes lines, and what
-//! is written is read as the same lines (law `written_is_read`). [`add`], [`change_key`] and [`remove`] change the line of one account and
-//! no other. They refuse a name that is there, a name that is not there, and a kvno that none follows. [`certify`] changes the line of the
-//! realm and no other.
+//! is written is read as the same lines (law `written_is_read`). [`add`], [`change_key`], [`remove`], [`disable`] and [`enable`] change the
+//! line of one account and no other. They refuse a name that is there, a name that is not there, and a kvno that none follows. The account of
+//! the realm's ticket-granting service is neither removed nor disabled. [`certify`] changes the line of the realm and no other. A [`Pattern`]
+//! stands for the names that `matches` says, and [`can_be_typed`] says which realms' names a client's user can type.
 #![tactic(auto)]
 
 mod edits;
@@ -24,13 +26,19 @@ mod fields;
 pub mod laws;
 mod line;
 mod order;
+mod patterns;
 mod reading;
 mod showing;
+mod typed;
 
-pub use edits::{EditRefusal, add, certify, change_key, place_of, remove};
+pub use edits::{
+    EditRefusal, add, certify, change_key, disable, enable, is_krbtgt, place_of, remove,
+};
 pub use fault::{LineFault, TextFault};
 pub use fields::{read_key, suite_named};
 pub use line::{AccountLine, Line, RealmLine, principal_name};
 pub use order::{check_next, check_order, realm_among};
+pub use patterns::Pattern;
 pub use reading::{read_line, read_lines, read_name};
-pub use showing::{line_text, text_of};
+pub use showing::{line_text, salt_text, text_of};
+pub use typed::can_be_typed;

@@ -26,6 +26,8 @@ pub struct AccountLine {
     pub name: PrincipalName,
     /// The account.
     pub account: Account,
+    /// Whether the account is disabled: the text has its line, and the database no record of it.
+    pub is_disabled: bool,
 }
 
 /// A line of a text of accounts.

@@ -1,10 +1,10 @@
 //! Reading a text of accounts.
-ghost use Rattle.std.specs.Prelude.{◌≡◌, ◌==◌, ◌-◌, nat_eq, length, map, slice_index, take, pos, IfOk, List, [], ◌∷◌};
+ghost use Rattle.std.specs.Prelude.{◌≡◌, ◌==◌, ◌-◌, nat_eq, true, false, drop, length, map, slice_index, take, pos, IfOk, MatchOption, List, [], ◌∷◌};
 ghost use Rattle.std.specs.List.{slice_split};
 ghost use Rattle.std.specs.Option.{option_map};
 ghost use Rattle.krb_constants.specs.declared.types.TheConstants.{NT_PRINCIPAL};
-ghost use Rattle.krb_account_texts.specs.Lines.{written};
-ghost use Rattle.krb_account_texts.specs.Reading.{account_in, fields, is_ended, line_in, line_of, lines_in, lines_of, name_in, numbered, realm_in};
+ghost use Rattle.krb_account_texts.specs.Lines.{disabled_mark, written};
+ghost use Rattle.krb_account_texts.specs.Reading.{account_in, disabled_of, fields, is_disabled, is_ended, line_in, line_of, lines_in, lines_of, name_in, numbered, realm_in};
 ghost use Rattle.krb_account_texts.specs.Steps.{IsAside, each_from};
 
 use crate::fault::{LineFault, TextFault};
@@ -78,11 +78,17 @@ fn numbered(alloc: Global, number: usize, text: &str) -> Result<Line, TextFault>
     }
 }
 
+/// What the line of a disabled account begins with.
+const DISABLED: &str = "#disabled\t";
+
 /// The line that a text without a line feed writes. A text is read line by line so where its lines aren't kept: as [`read_lines`] reads it.
 #[tactic(auto, unfolding(crate::specs::Reading::line_in))]
 pub fn read_line(alloc: Global, text: &str) -> Result<Line, LineFault>
     ensures { IsAside LineFault.Memory written (line_in text.now) result }
 {
+    if let Some(fields) = disabled_fields(text) {
+        return read_disabled(alloc, fields);
+    }
     if is_comment(text.as_bytes()) {
         let text = String::from_str(alloc, text)?;
         return Ok(Line::Comment(text));
@@ -91,7 +97,33 @@ pub fn read_line(alloc: Global, text: &str) -> Result<Line, LineFault>
     line_of(alloc, &fields)
 }
 
-fn is_comment(text: &[u8]) -> bool
+// The fields behind the mark of a disabled account, if the text begins with it.
+fn disabled_fields(text: &str) -> Option<&str>
+    ensures { MatchOption result (is_disabled text.now ≡ false) (λ fields. (is_disabled text.now ≡ true) × (fields.now ≡ drop (length disabled_mark) text.now)) }
+{
+    text.strip_prefix(DISABLED)
+}
+
+// The line of a disabled account, of the text of its fields.
+fn read_disabled(alloc: Global, text: &str) -> Result<Line, LineFault>
+    ensures { IsAside LineFault.Memory written (disabled_of (fields text.now)) result }
+{
+    let fields = fields_of(alloc, text)?;
+    disabled_of(alloc, &fields)
+}
+
+// The line of a disabled account, of these fields.
+fn disabled_of(alloc: Global, fields: &[&str]) -> Result<Line, LineFault>
+    ensures { IsAside LineFault.Memory written (disabled_of (map (λ field. field.now) fields.now)) result }
+{
+    match fields {
+        [name, suite, kvno, salt, key] => account_of(alloc, true, name, suite, kvno, salt, key),
+        _ => Err(LineFault::DisabledFields),
+    }
+}
+
+/// Whether a text begins as a comment does.
+pub(crate) fn is_comment(text: &[u8]) -> bool
     ensures { result ≡ (slice_index text.now 0 == 35) }
 {
     match text.first() {
@@ -109,7 +141,7 @@ fn line_of(alloc: Global, fields: &[&str]) -> Result<Line, LineFault>
         [word, name, skew, lifetime, further, digits] => {
             certified_realm_of(alloc, word, name, skew, lifetime, further, digits)
         }
-        [name, suite, kvno, salt, key] => account_of(alloc, name, suite, kvno, salt, key),
+        [name, suite, kvno, salt, key] => account_of(alloc, false, name, suite, kvno, salt, key),
         _ => Err(LineFault::Fields),
     }
 }
@@ -173,13 +205,14 @@ fn realm_of(
 #[tactic(auto, unfolding(crate::specs::Reading::account_in))]
 fn account_of(
     alloc: Global,
+    is_disabled: bool,
     name: &str,
     suite: &str,
     kvno: &str,
     salt: &str,
     key: &str,
 ) -> Result<Line, LineFault>
-    ensures { IsAside LineFault.Memory written (account_in name.now suite.now kvno.now salt.now key.now) result }
+    ensures { IsAside LineFault.Memory written (account_in is_disabled name.now suite.now kvno.now salt.now key.now) result }
 {
     let name = read_name(alloc, name)?;
     let suite = suite_of(suite)?;
@@ -187,7 +220,11 @@ fn account_of(
     let salt = salt_of(alloc, salt)?;
     let key = read_key(alloc, suite, key)?;
     let account = Account::new(key, kvno, salt);
-    Ok(Line::Account(AccountLine { name, account }))
+    Ok(Line::Account(AccountLine {
+        name,
+        account,
+        is_disabled,
+    }))
 }
 
 /// The name that a text writes, as RFC 1964 has it (section 2.1.3), if it is one of a principal. Its type is NT-PRINCIPAL.

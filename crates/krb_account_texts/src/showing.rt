@@ -1,10 +1,13 @@
 //! Writing a text of accounts.
 ghost use Rattle.std.specs.Prelude.{◌≡◌, ◌∷◌, ◌++◌, [], map, string_bytes, IfOk, OnOk};
 ghost use Rattle.std.specs.Option.{option_map};
-ghost use Rattle.krb_account_texts.specs.Lines.{account_text, line_text, realm_text, salt_text, text_of, written};
+ghost use Rattle.krb_types.specs.NameText.{name_text};
+ghost use Rattle.krb_account_texts.specs.Lines.{account_fields, account_text, guarded, line_text, realm_text, salt_text, text_of, written};
 
 use crate::line::{AccountLine, Line, RealmLine};
+use crate::reading::is_comment;
 use krb_settings::suite_name;
+use krb_types::data_types::PrincipalName;
 use picky_asn1::wrapper::OctetStringAsn1;
 use std::alloc::{AllocError, Global};
 
@@ -54,9 +57,21 @@ fn realm_text(alloc: Global, line: &RealmLine) -> Result<String, AllocError>
 }
 
 fn account_text(alloc: Global, line: &AccountLine) -> Result<String, AllocError>
-    ensures { IfOk result (λ text. string_bytes text ≡ account_text line.now.name.name_string.0 line.now.account) }
+    ensures { IfOk result (λ text. string_bytes text ≡ account_text line.now.name.name_string.0 line.now.account line.now.is_disabled) }
 {
-    let name = &line.name;
+    let fields = account_fields(alloc, line)?;
+    if line.is_disabled {
+        format!(in alloc; "#disabled\t{fields}")
+    } else {
+        Ok(fields)
+    }
+}
+
+// The fields of an account.
+fn account_fields(alloc: Global, line: &AccountLine) -> Result<String, AllocError>
+    ensures { IfOk result (λ text. string_bytes text ≡ account_fields line.now.name.name_string.0 line.now.account) }
+{
+    let name = first_name(alloc, &line.name)?;
     let suite = suite_name(line.account.suite());
     let kvno = line.account.kvno();
     let salt = salt_text(alloc, line.account.salt())?;
@@ -64,7 +79,20 @@ fn account_text(alloc: Global, line: &AccountLine) -> Result<String, AllocError>
     format!(in alloc; "{name}\t{suite}\t{kvno}\t{salt}\t{key}")
 }
 
-fn salt_text(alloc: Global, salt: Option<&OctetStringAsn1>) -> Result<String, AllocError>
+// The text of a name where a line begins.
+fn first_name(alloc: Global, name: &PrincipalName) -> Result<String, AllocError>
+    ensures { IfOk result (λ text. string_bytes text ≡ guarded (name_text name.now.name_string.0)) }
+{
+    let text = format!(in alloc; "{name}")?;
+    if is_comment(text.as_bytes()) {
+        format!(in alloc; "\\{text}")
+    } else {
+        Ok(text)
+    }
+}
+
+/// Writes a salt: its hexadecimal digits, or `-` if there is none.
+pub fn salt_text(alloc: Global, salt: Option<&OctetStringAsn1>) -> Result<String, AllocError>
     ensures { IfOk result (λ text. string_bytes text ≡ salt_text (option_map (λ salt. salt.now) salt.entry)) }
 {
     match salt {

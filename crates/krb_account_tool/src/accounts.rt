@@ -1,16 +1,17 @@
-//! The commands that read or change accounts in a text.
+//! The commands that change accounts in a text.
 
-use crate::arguments::{Options, expected, name_of, options_of};
-use crate::secrets::{SaltedKey, key_of_digits, key_of_password, read_secret};
-use crate::texts::{account_among, finish_text, lines_of, realm_of};
+use crate::arguments::{expected, name_of, options_of};
+use crate::secrets::{KeyInput, SaltedKey, input_of, key_of_password, key_without_password};
+use crate::texts::{account_among, finish_text, lines_of, printed, realm_of};
 use crate::warnings::{RealmKey, Stream, is_service, warn_of_account, warn_of_realm};
 use krb_account_texts::{
-    AccountLine, EditRefusal, Line, RealmLine, add, change_key, principal_name, realm_among, remove,
+    AccountLine, EditRefusal, Line, RealmLine, add, can_be_typed, change_key, disable, enable,
+    place_of, principal_name, realm_among, remove,
 };
 use krb_accounts::{Account, Settings, USUAL_LIFETIME, USUAL_SKEW, realm_name_of};
-use krb_commands::{FileKind, Stop, begin, begin_first, failed, printable_of, refused};
+use krb_commands::{FileKind, Stop, begin, begin_first, refused};
 use krb_crypto::{CipherSuite, Key};
-use krb_settings::{Secret, suite_name};
+use krb_settings::Secret;
 use krb_types::data_types::PrincipalName;
 use krb_types::krbtgt_of;
 use picky_asn1::wrapper::GeneralStringAsn1;
@@ -19,40 +20,46 @@ use std::alloc::{AllocError, Global};
 /// The suite of a key for which none is given.
 const SUITE: CipherSuite = CipherSuite::Aes256CtsHmacSha196;
 
-/// `create TEXT REALM`: makes a text of a realm, with the key of its ticket-granting service from standard input.
+/// `create [-e SUITE] [-k [random]] TEXT REALM`: makes a text of a realm, with the key of its ticket-granting service.
 pub(crate) fn create(rt: &HostRuntime, arguments: &[String]) -> Result<(), Stop> {
+    let alloc = rt.alloc();
+    let (options, arguments) = options_of(alloc, arguments)?;
     let [path, realm] = arguments else {
-        return Err(expected(rt.alloc(), "create TEXT REALM"));
+        return Err(expected(alloc, "create [-e SUITE] [-k [random]] TEXT REALM"));
     };
-    let digits = read_secret(rt)?;
+    let own = realm_line(alloc, realm.as_str())?;
+    let input = input_of(rt, options.source)?;
     let new_file = begin_first(rt, path.as_str(), &[])?;
-    let lines = created(rt, realm.as_str(), &digits);
+    let lines = created(rt, own, options.suite.unwrap_or(SUITE), &input);
     finish_text(rt, new_file, lines)
 }
 
-fn created(rt: &HostRuntime, realm: &str, digits: &[u8]) -> Result<Vec<Line>, Stop> {
-    let lines = first_lines(rt.alloc(), realm, digits)?;
+fn created(
+    rt: &HostRuntime,
+    own: RealmLine,
+    suite: CipherSuite,
+    input: &KeyInput,
+) -> Result<Vec<Line>, Stop> {
+    let account = service_line(rt, &own.name, suite, input)?;
+    let lines = two_lines(rt.alloc(), own, account)?;
     warn_of_created(rt, &lines)?;
     Ok(lines)
 }
 
-// The lines of a new realm.
-fn first_lines(alloc: Global, realm: &str, digits: &[u8]) -> Result<Vec<Line>, Stop> {
-    let own = realm_line(alloc, realm)?;
-    let account = service_line(alloc, &own.name, digits)?;
-    two_lines(alloc, own, account)
-}
-
 // The line of the ticket-granting service of a new realm.
 fn service_line(
-    alloc: Global,
+    rt: &HostRuntime,
     realm: &GeneralStringAsn1,
-    digits: &[u8],
+    suite: CipherSuite,
+    input: &KeyInput,
 ) -> Result<AccountLine, Stop> {
-    let name = service_name(alloc, realm)?;
-    let salted = key_of_digits(alloc, SUITE, digits)?;
-    let account = Account::new(salted.key, 1, None);
-    Ok(AccountLine { name, account })
+    let name = service_name(rt.alloc(), realm)?;
+    let salted = key_without_password(rt, suite, input)?;
+    Ok(AccountLine {
+        name,
+        account: Account::new(salted.key, 1, None),
+        is_disabled: false,
+    })
 }
 
 /// The name of the ticket-granting service of a realm.
@@ -82,13 +89,19 @@ fn warn_of_created(rt: &HostRuntime, lines: &[Line]) -> Result<(), Stop> {
     warn_of_realm(rt, Stream::Error, &own)
 }
 
-// The line of a realm of this name, with the settings of a new realm.
+// The line of a realm of this name, if clients can type it, with the settings of a new realm.
 fn realm_line(alloc: Global, name: &str) -> Result<RealmLine, Stop> {
+    if !can_be_typed(name.as_bytes()) {
+        return Err(refused(
+            alloc,
+            "REALM: expected 1 to 255 printable ASCII characters that clients can type: no blank, and none of \"#*/;=@[\\]{}",
+        ));
+    }
     let (Ok(name), Ok(settings)) = (
         realm_name_of(alloc, name.as_bytes()),
         Settings::new(USUAL_SKEW, USUAL_LIFETIME),
     ) else {
-        return Err(refused(alloc, "REALM: expected 1 to 255 printable ASCII characters"));
+        return Err(Stop::Memory);
     };
     Ok(RealmLine {
         name,
@@ -97,74 +110,15 @@ fn realm_line(alloc: Global, name: &str) -> Result<RealmLine, Stop> {
     })
 }
 
-/// `list TEXT`: prints the realm, and whether it answers logins by certificate, and each account's name, suite, kvno, and whether its key is
-/// of a password.
-pub(crate) fn list(rt: &HostRuntime, arguments: &[String]) -> Result<(), Stop> {
-    let [path] = arguments else {
-        return Err(expected(rt.alloc(), "list TEXT"));
-    };
-    let text = listed(rt, path.as_str())?;
-    match print!(rt; "{text}") {
-        Ok(()) => Ok(()),
-        Err(_) => Err(failed(rt.alloc(), "standard output can't be written")),
-    }
-}
-
-fn listed(rt: &HostRuntime, path: &str) -> Result<String, Stop> {
-    let lines = lines_of(rt, path)?;
-    lines_listed(rt.alloc(), &lines)
-}
-
-fn lines_listed(alloc: Global, lines: &[Line]) -> Result<String, Stop> {
-    let mut text = String::new(alloc);
-    for line in lines {
-        let listed = line_listed(alloc, line)?;
-        text.push_str(listed.as_str())?;
-    }
-    Ok(text)
-}
-
-fn line_listed(alloc: Global, line: &Line) -> Result<String, AllocError> {
-    match line {
-        Line::Comment(_) => Ok(String::new(alloc)),
-        Line::Realm(realm) => realm_listed(alloc, realm),
-        Line::Account(own) => account_listed(alloc, own),
-    }
-}
-
-fn realm_listed(alloc: Global, realm: &RealmLine) -> Result<String, AllocError> {
-    let name = &realm.name;
-    let skew = realm.settings.skew();
-    let lifetime = realm.settings.lifetime();
-    let further = if realm.pkinit.is_some() {
-        "\tpkinit"
-    } else {
-        ""
-    };
-    format!(in alloc; "realm\t{name}\t{skew}\t{lifetime}{further}\n")
-}
-
-fn account_listed(alloc: Global, own: &AccountLine) -> Result<String, AllocError> {
-    let name = printable_of(alloc, &own.name)?;
-    let suite = suite_name(own.account.suite());
-    let kvno = own.account.kvno();
-    let kind = if own.account.salt().is_some() {
-        "password"
-    } else {
-        "key"
-    };
-    format!(in alloc; "{name}\t{suite}\t{kvno}\t{kind}\n")
-}
-
 /// What `add` and `key` are given.
 #[derive(Drop)]
 struct Given<'a> {
-    options: Options,
+    /// The suite, if one is given.
+    suite: Option<CipherSuite>,
     /// The path of the text.
     path: &'a str,
     name: PrincipalName,
-    /// The line of standard input.
-    secret: Vec<u8>,
+    input: KeyInput,
 }
 
 // What these arguments and standard input give to a command that expects `command`.
@@ -178,18 +132,18 @@ fn given_of<'a>(
         return Err(expected(rt.alloc(), command));
     };
     let name = name_of(rt.alloc(), name.as_str())?;
-    let secret = read_secret(rt)?;
+    let input = input_of(rt, options.source)?;
     Ok(Given {
-        options,
+        suite: options.suite,
         path: path.as_str(),
         name,
-        secret,
+        input,
     })
 }
 
-/// `add [-e SUITE] [-k] TEXT NAME`: adds an account, with kvno 1.
+/// `add [-e SUITE] [-k [random]] TEXT NAME`: adds an account, with kvno 1.
 pub(crate) fn add_account(rt: &HostRuntime, arguments: &[String]) -> Result<(), Stop> {
-    let given = given_of(rt, "add [-e SUITE] [-k] TEXT NAME", arguments)?;
+    let given = given_of(rt, "add [-e SUITE] [-k [random]] TEXT NAME", arguments)?;
     let new_file = begin(rt, given.path, FileKind::Accounts, &[])?;
     let lines = added(rt, given);
     finish_text(rt, new_file, lines)
@@ -197,17 +151,30 @@ pub(crate) fn add_account(rt: &HostRuntime, arguments: &[String]) -> Result<(), 
 
 fn added(rt: &HostRuntime, given: Given<'_>) -> Result<Vec<Line>, Stop> {
     let mut lines = lines_of(rt, given.path)?;
-    let suite = given.options.suite.unwrap_or(SUITE);
+    let components = given.name.name_string.0.as_slice();
+    if place_of(&lines, components).is_some() {
+        return Err(refusal_of(rt.alloc(), &given.name, EditRefusal::Exists));
+    }
+    let suite = given.suite.unwrap_or(SUITE);
     let salted = salted_key(rt, &given, &lines, suite)?;
-    let name = given.name;
-    let account = Account::new(salted.key, 1, salted.salt);
-    match add(&mut lines, AccountLine { name, account }) {
-        Ok(()) => Ok(lines),
-        Err(refusal) => Err(refusal_of(rt.alloc(), refusal)),
+    put_account(&mut lines, given.name, salted)?;
+    Ok(lines)
+}
+
+// Adds an account of a name that has none, with kvno 1.
+fn put_account(lines: &mut Vec<Line>, name: PrincipalName, salted: SaltedKey) -> Result<(), Stop> {
+    let line = AccountLine {
+        name,
+        account: Account::new(salted.key, 1, salted.salt),
+        is_disabled: false,
+    };
+    match add(lines, line) {
+        Ok(()) => Ok(()),
+        Err(_) => Err(Stop::Memory),
     }
 }
 
-// The key of standard input, of which it warns.
+// The key that was given, of which it warns.
 fn salted_key(
     rt: &HostRuntime,
     given: &Given<'_>,
@@ -215,29 +182,33 @@ fn salted_key(
     suite: CipherSuite,
 ) -> Result<SaltedKey, Stop> {
     let realm = realm_of(rt, given.path, lines)?;
-    let salted = key_of_secret(rt.alloc(), given, realm, suite)?;
+    let salted = key_of_input(rt, given, realm, suite)?;
     warn_of_key(rt, given, realm, lines, &salted.key)?;
     Ok(salted)
 }
 
-fn key_of_secret(
-    alloc: Global,
+fn key_of_input(
+    rt: &HostRuntime,
     given: &Given<'_>,
     realm: &RealmLine,
     suite: CipherSuite,
 ) -> Result<SaltedKey, Stop> {
-    if given.options.is_key {
-        key_of_digits(alloc, suite, &given.secret)
-    } else {
-        let components = given.name.name_string.0.as_slice();
-        key_of_password(
-            alloc,
-            suite,
-            &given.secret,
-            realm.name.as_bytes(),
-            components,
-        )
+    let KeyInput::Password(password) = &given.input else {
+        return key_without_password(rt, suite, &given.input);
+    };
+    let realm = realm.name.as_bytes();
+    let name = &given.name;
+    if is_service(realm, name) {
+        let name = printed(rt.alloc(), name)?;
+        return Err(refused(
+            rt.alloc(),
+            format_args!(
+                "{name}: the realm's key is made of no password: expected -k random, or -k and a key"
+            ),
+        ));
     }
+    let components = name.name_string.0.as_slice();
+    key_of_password(rt.alloc(), suite, password, realm, components)
 }
 
 // Warns of a key, beside the realm's. That of the realm's own account isn't judged beside the key that it has now.
@@ -261,23 +232,17 @@ fn warn_of_key(
 
 // The secret of which it warns: the key, or the password of which it was made.
 fn told_secret(alloc: Global, given: &Given<'_>, key: &Key) -> Result<Secret, AllocError> {
-    let is_key = given.options.is_key;
-    let told = if is_key {
-        key.as_bytes()
-    } else {
-        given.secret.as_slice()
-    };
-    let told = Vec::from_slice(alloc, told)?;
-    Ok(if is_key {
-        Secret::Key(told)
-    } else {
-        Secret::Password(told)
-    })
+    match &given.input {
+        KeyInput::Password(password) => Ok(Secret::Password(Vec::from_slice(alloc, password)?)),
+        KeyInput::Digits(_) | KeyInput::Random => {
+            Ok(Secret::Key(Vec::from_slice(alloc, key.as_bytes())?))
+        }
+    }
 }
 
-/// `key [-e SUITE] [-k] TEXT NAME`: gives an account its next key, with the next kvno.
+/// `key [-e SUITE] [-k [random]] TEXT NAME`: gives an account its next key, with the next kvno.
 pub(crate) fn change_account(rt: &HostRuntime, arguments: &[String]) -> Result<(), Stop> {
-    let given = given_of(rt, "key [-e SUITE] [-k] TEXT NAME", arguments)?;
+    let given = given_of(rt, "key [-e SUITE] [-k [random]] TEXT NAME", arguments)?;
     let new_file = begin(rt, given.path, FileKind::Accounts, &[])?;
     let lines = changed(rt, &given);
     finish_text(rt, new_file, lines)
@@ -289,7 +254,7 @@ fn changed(rt: &HostRuntime, given: &Given<'_>) -> Result<Vec<Line>, Stop> {
     let components = given.name.name_string.0.as_slice();
     match change_key(&mut lines, components, salted.key, salted.salt) {
         Ok(()) => Ok(lines),
-        Err(refusal) => Err(refusal_of(rt.alloc(), refusal)),
+        Err(refusal) => Err(refusal_of(rt.alloc(), &given.name, refusal)),
     }
 }
 
@@ -297,38 +262,77 @@ fn changed(rt: &HostRuntime, given: &Given<'_>) -> Result<Vec<Line>, Stop> {
 fn next_key(rt: &HostRuntime, given: &Given<'_>, lines: &[Line]) -> Result<SaltedKey, Stop> {
     match account_among(lines, given.name.name_string.0.as_slice()) {
         Some(own) => {
-            let suite = given.options.suite.unwrap_or(own.account.suite());
+            let suite = given.suite.unwrap_or(own.account.suite());
             salted_key(rt, given, lines, suite)
         }
-        None => Err(refusal_of(rt.alloc(), EditRefusal::Unknown)),
+        None => Err(refusal_of(rt.alloc(), &given.name, EditRefusal::Unknown)),
     }
 }
 
-/// `remove TEXT NAME`: takes an account away.
-pub(crate) fn remove_account(rt: &HostRuntime, arguments: &[String]) -> Result<(), Stop> {
+/// What is done with one account, beside its key.
+#[derive(Clone, Copy)]
+pub(crate) enum Edit {
+    /// Its line is taken away.
+    Remove,
+    /// It is disabled.
+    Disable,
+    /// It is enabled.
+    Enable,
+}
+
+impl Edit {
+    // The arguments of the command.
+    fn command(self) -> &'static str {
+        match self {
+            Edit::Remove => "remove TEXT NAME",
+            Edit::Disable => "disable TEXT NAME",
+            Edit::Enable => "enable TEXT NAME",
+        }
+    }
+
+    fn change(self, lines: &mut Vec<Line>, name: &[GeneralStringAsn1]) -> Result<(), EditRefusal> {
+        match self {
+            Edit::Remove => remove(lines, name),
+            Edit::Disable => disable(lines, name),
+            Edit::Enable => enable(lines, name),
+        }
+    }
+}
+
+/// `remove TEXT NAME`, `disable TEXT NAME` and `enable TEXT NAME`: takes an account away, disables it or enables it.
+pub(crate) fn edit_account(rt: &HostRuntime, edit: Edit, arguments: &[String]) -> Result<(), Stop> {
     let [path, name] = arguments else {
-        return Err(expected(rt.alloc(), "remove TEXT NAME"));
+        return Err(expected(rt.alloc(), edit.command()));
     };
     let name = name_of(rt.alloc(), name.as_str())?;
     let new_file = begin(rt, path.as_str(), FileKind::Accounts, &[])?;
-    let lines = removed(rt, path.as_str(), &name);
+    let lines = edited(rt, path.as_str(), edit, &name);
     finish_text(rt, new_file, lines)
 }
 
-fn removed(rt: &HostRuntime, path: &str, name: &PrincipalName) -> Result<Vec<Line>, Stop> {
+fn edited(
+    rt: &HostRuntime,
+    path: &str,
+    edit: Edit,
+    name: &PrincipalName,
+) -> Result<Vec<Line>, Stop> {
     let mut lines = lines_of(rt, path)?;
-    match remove(&mut lines, name.name_string.0.as_slice()) {
+    match edit.change(&mut lines, name.name_string.0.as_slice()) {
         Ok(()) => Ok(lines),
-        Err(refusal) => Err(refusal_of(rt.alloc(), refusal)),
+        Err(refusal) => Err(refusal_of(rt.alloc(), name, refusal)),
     }
 }
 
-/// The stop of a refused change.
-pub(crate) fn refusal_of(alloc: Global, refusal: EditRefusal) -> Stop {
+/// The stop of a refused change of the account of a name.
+pub(crate) fn refusal_of(alloc: Global, name: &PrincipalName, refusal: EditRefusal) -> Stop {
     match refusal {
         EditRefusal::Memory => Stop::Memory,
-        EditRefusal::Exists | EditRefusal::Unknown | EditRefusal::NumberSpent => {
-            refused(alloc, format_args!("NAME: {refusal}"))
-        }
+        EditRefusal::Exists
+        | EditRefusal::Unknown
+        | EditRefusal::KeptAccount
+        | EditRefusal::NumberSpent => match printed(alloc, name) {
+            Ok(name) => refused(alloc, format_args!("{name}: {refusal}")),
+            Err(_) => Stop::Memory,
+        },
     }
 }

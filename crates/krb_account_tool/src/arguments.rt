@@ -1,41 +1,78 @@
 //! The arguments of the program.
 
 use krb_account_texts::{LineFault, read_name, suite_named};
-use krb_commands::{Stop, failed, refused};
+use krb_commands::{Printable, Stop, failed, refused};
 use krb_crypto::CipherSuite;
 use krb_types::data_types::PrincipalName;
 use std::alloc::Global;
 
-/// The options of `add` and `key`.
+/// Where a key comes from.
+#[derive(Clone, Copy, PartialEq, Eq)]
+pub(crate) enum KeySource {
+    /// A password, which is the line of standard input. It's that of `create` and of an account without `-k`.
+    Password,
+    /// `-k`: the key's hexadecimal digits are the line of standard input.
+    Digits,
+    /// `-k random`: the system's random octets.
+    Random,
+}
+
+/// The options of `create`, `add` and `key`.
 #[derive(Clone, Copy)]
 pub(crate) struct Options {
     /// The suite of the key, if one was given.
     pub(crate) suite: Option<CipherSuite>,
-    /// Whether standard input is a key.
-    pub(crate) is_key: bool,
+    /// Where the key comes from.
+    pub(crate) source: KeySource,
 }
 
-/// The options, and the arguments after them.
+// What the last argument was, which says what the next one may be.
+#[derive(Clone, Copy, PartialEq, Eq)]
+enum Last {
+    Suite,
+    Key,
+    Other,
+}
+
+/// The options, and the arguments after them. The word `random` behind `-k` is no other argument.
 pub(crate) fn options_of(alloc: Global, words: &[String]) -> Result<(Options, &[String]), Stop> {
     let mut options = Options {
         suite: None,
-        is_key: false,
+        source: KeySource::Password,
     };
-    let mut takes_suite = false;
+    let mut last = Last::Other;
     for (index, word) in words.iter().enumerate() {
-        let word = word.as_str();
-        if takes_suite {
-            options.suite = Some(suite_of(alloc, word)?);
-            takes_suite = false;
-        } else if word == "-e" {
-            takes_suite = true;
-        } else if word == "-k" {
-            options.is_key = true;
-        } else {
-            return Ok((options, &words[index..]));
+        match put_option(alloc, &mut options, last, word.as_str())? {
+            Some(next) => last = next,
+            None => return Ok((options, &words[index..])),
         }
     }
     Ok((options, &[]))
+}
+
+// Puts an argument among the options, if it is one.
+fn put_option(
+    alloc: Global,
+    options: &mut Options,
+    last: Last,
+    word: &str,
+) -> Result<Option<Last>, Stop> {
+    if last == Last::Suite {
+        options.suite = Some(suite_of(alloc, word)?);
+        return Ok(Some(Last::Other));
+    }
+    if last == Last::Key && word == "random" {
+        options.source = KeySource::Random;
+        return Ok(Some(Last::Other));
+    }
+    match word {
+        "-e" => Ok(Some(Last::Suite)),
+        "-k" => {
+            options.source = KeySource::Digits;
+            Ok(Some(Last::Key))
+        }
+        _ => Ok(None),
+    }
 }
 
 fn suite_of(alloc: Global, word: &str) -> Result<CipherSuite, Stop> {
@@ -60,7 +97,10 @@ pub(crate) fn name_of(alloc: Global, argument: &str) -> Result<PrincipalName, St
         Err(LineFault::Memory) => Err(Stop::Memory),
         Err(_) => Err(refused(
             alloc,
-            "NAME: expected 1 to 16 components of 1 to 255 ASCII characters, with / between each two, and no realm",
+            format_args!(
+                "{}: expected a name of 1 to 16 components of 1 to 255 ASCII characters, with / between each two, and no realm",
+                Printable(argument.as_bytes())
+            ),
         )),
     }
 }

@@ -1,8 +1,7 @@
 //! The commands `certify` and `uncertify`: what logins by certificate are answered by.
 
-use crate::accounts::refusal_of;
 use crate::arguments::expected;
-use crate::texts::{finish_text, lines_of};
+use crate::texts::{finish_text, lines_of, unnamed_realm};
 use key_files::{FileFault, certificate_in, private_key_in};
 use krb_account_files::PKINIT_ROOM;
 use krb_account_texts::{Line, certify as put_certified};
@@ -74,7 +73,8 @@ fn certified(
     let mut lines = lines_of(rt, path)?;
     match put_certified(&mut lines, pkinit) {
         Ok(()) => Ok(lines),
-        Err(refusal) => Err(refusal_of(rt.alloc(), refusal)),
+        // The order of the lines was checked, so there is one of a realm.
+        Err(_) => Err(unnamed_realm(rt.alloc(), path)),
     }
 }
 

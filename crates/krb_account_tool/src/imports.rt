@@ -1,6 +1,6 @@
 //! The command `import`.
 
-use crate::accounts::{refusal_of, service_name, two_lines};
+use crate::accounts::{service_name, two_lines};
 use crate::arguments::expected;
 use crate::secrets::{SaltedKey, key_of_password};
 use crate::texts::finish_text;
@@ -128,7 +128,11 @@ fn service_of(
     let name = service_name(rt.alloc(), realm)?;
     let key = key_of(rt, source, Place::File, written.suite, &written.key)?;
     let account = Account::new(key, 1, None);
-    Ok(AccountLine { name, account })
+    Ok(AccountLine {
+        name,
+        account,
+        is_disabled: false,
+    })
 }
 
 fn put_account(
@@ -142,8 +146,8 @@ fn put_account(
     let line = account_of(rt, source, place, realm, account)?;
     match add(lines, line) {
         Ok(()) => Ok(()),
-        Err(EditRefusal::Exists) => Err(source.breaks(rt, place, Rule::Exists)),
-        Err(refusal) => Err(refusal_of(rt.alloc(), refusal)),
+        Err(EditRefusal::Memory) => Err(Stop::Memory),
+        Err(_) => Err(source.breaks(rt, place, Rule::Exists)),
     }
 }
 
@@ -195,7 +199,11 @@ fn account_of(
     let salted = salted_key_of(rt, source, place, realm, &components, account)?;
     let name = principal_name(alloc, components)?;
     let account = Account::new(salted.key, 1, salted.salt);
-    Ok(AccountLine { name, account })
+    Ok(AccountLine {
+        name,
+        account,
+        is_disabled: false,
+    })
 }
 
 // The key of an account.

@@ -1,8 +1,9 @@
 //! The command `keytab`.
 
+use crate::accounts::refusal_of;
 use crate::arguments::{expected, name_of};
 use crate::texts::{account_among, finish, lines_of, realm_of};
-use krb_account_texts::{AccountLine, Line};
+use krb_account_texts::{AccountLine, EditRefusal, Line};
 use krb_commands::{FileKind, Stop, begin, keytab_in, refused};
 use krb_constants::types::NT_PRINCIPAL;
 use krb_keytabs::{Keytab, KeytabRecord, KeytabWriteFault};
@@ -99,7 +100,7 @@ fn account_named<'a>(
     let principal = name_of(alloc, name)?;
     match account_among(lines, principal.name_string.0.as_slice()) {
         Some(own) => Ok(own),
-        None => Err(refused(alloc, format_args!("{principal}: no such account"))),
+        None => Err(refusal_of(alloc, &principal, EditRefusal::Unknown)),
     }
 }
 

@@ -20,23 +20,29 @@ mod certificates;
 mod database;
 mod imports;
 mod keytabs;
+mod listing;
 mod records;
 mod secrets;
 mod texts;
 mod warner;
 mod warnings;
 
+use accounts::Edit;
 use krb_commands::{Stop, arguments_of, failed, print_line};
 use krb_version::VERSION;
 use std::process::ExitCode;
 
 /// What `--help` prints, and what a run with other arguments expects.
 const USAGE: &str = "usage:
-  krb_accounts create TEXT REALM                      makes TEXT, with the realm's key from standard input
+  krb_accounts create [-e SUITE] [-k random] TEXT REALM
+                                                      makes TEXT, with the realm's key from standard input, or at random
   krb_accounts import SETTINGS TEXT                   makes TEXT of a settings file of krb_realm
-  krb_accounts list TEXT                              prints names, suites and kvnos
-  krb_accounts add [-e SUITE] [-k] TEXT NAME          adds an account, with kvno 1
-  krb_accounts key [-e SUITE] [-k] TEXT NAME          gives an account its next key, with the next kvno
+  krb_accounts list TEXT [PATTERN]                    prints names, suites and kvnos, of the accounts whose names are as PATTERN
+  krb_accounts show TEXT NAME                         prints what TEXT says of one account, but not its key
+  krb_accounts add [-e SUITE] [-k [random]] TEXT NAME adds an account, with kvno 1
+  krb_accounts key [-e SUITE] [-k [random]] TEXT NAME gives an account its next key, with the next kvno
+  krb_accounts disable TEXT NAME                      keeps an account in TEXT, and out of the database
+  krb_accounts enable TEXT NAME                       takes a disabled account into the database again
   krb_accounts remove TEXT NAME                       takes an account away
   krb_accounts certify TEXT CERTIFICATE KEY ANCHOR    lets clients log in by certificate: with the KDC's certificate, its RSA key, and
                                                       the certificate of the authority that issues the clients' certificates
@@ -45,8 +51,9 @@ const USAGE: &str = "usage:
   krb_accounts make TEXT DATABASE                     makes the database of TEXT
   krb_accounts warnings TEXT                          prints what make warns of
   krb_accounts check TEXT DATABASE                    says whether the database answers as TEXT does
-  krb_accounts --help, krb_accounts --version
-Standard input is one line: the password, or with -k and for create the key in hexadecimal digits. NAME is as in host/server.example.com.
+  krb_accounts -h or --help, krb_accounts --version
+Standard input is one line: the password, or with -k and for create the key in hexadecimal digits. With -k random it isn't read: the key is
+made of the system's random octets. NAME is as in host/server.example.com. In PATTERN * is for any characters, / too, and ? for one.
 SUITE is a name such as aes256-cts-hmac-sha1-96, which is also that of create and add if none is given. key keeps the account's suite.
 CERTIFICATE, KEY and ANCHOR are files, in PEM or DER. KEY has at least 2,048 bits, and is not encrypted.";
 
@@ -71,14 +78,17 @@ fn run(rt: &HostRuntime) -> Result<(), Stop> {
 
 fn run_command(rt: &HostRuntime, command: &str, rest: &[String]) -> Result<(), Stop> {
     match command {
-        "--help" => print_line(rt, USAGE),
+        "-h" | "--help" => print_line(rt, USAGE),
         "--version" => print_line(rt, format_args!("krb_accounts {VERSION}")),
         "create" => accounts::create(rt, rest),
         "import" => imports::import(rt, rest),
-        "list" => accounts::list(rt, rest),
+        "list" => listing::list(rt, rest),
+        "show" => listing::show(rt, rest),
         "add" => accounts::add_account(rt, rest),
         "key" => accounts::change_account(rt, rest),
-        "remove" => accounts::remove_account(rt, rest),
+        "disable" => accounts::edit_account(rt, Edit::Disable, rest),
+        "enable" => accounts::edit_account(rt, Edit::Enable, rest),
+        "remove" => accounts::edit_account(rt, Edit::Remove, rest),
         "certify" => certificates::certify(rt, rest),
         "uncertify" => certificates::uncertify(rt, rest),
         "keytab" => keytabs::keytab(rt, rest),

@@ -1,7 +1,9 @@
 //! The records of a text of accounts. Each line is read, and its record made, before the next: a text may have many.
 
+use crate::accounts::service_name;
 use crate::texts::{stop_of, text_in};
 use crate::warner::Warner;
+use crate::warnings::is_service;
 use cdb::{Record, WriteFault};
 use krb_account_files::{PKINIT_ROOM, RealmParameters, record_of_account};
 use krb_account_texts::{
@@ -33,6 +35,7 @@ pub(crate) fn records_in(
     let mut made = Made {
         realm: None,
         last: None,
+        has_service: false,
         records: Vec::new(rt.alloc()),
         warner,
     };
@@ -46,6 +49,8 @@ struct Made {
     realm: Option<RealmLine>,
     // The last account.
     last: Option<AccountLine>,
+    // Whether there was the account of the realm's ticket-granting service.
+    has_service: bool,
     records: Vec<Record>,
     warner: Option<Warner>,
 }
@@ -118,6 +123,14 @@ impl Made {
         put
     }
 
+    // Whether a name is that of the realm's ticket-granting service.
+    fn is_service(&self, own: &AccountLine) -> bool {
+        match &self.realm {
+            Some(realm) => is_service(realm.name.as_bytes(), &own.name),
+            None => false,
+        }
+    }
+
     fn put_record(
         &mut self,
         rt: &HostRuntime,
@@ -125,6 +138,11 @@ impl Made {
         number: usize,
         own: &AccountLine,
     ) -> Result<(), Stop> {
+        let is_service = self.is_service(own);
+        self.has_service = self.has_service || is_service;
+        if own.is_disabled {
+            return check_disabled(rt.alloc(), path, number, is_service);
+        }
         if let Some(warner) = &mut self.warner {
             warner.see_account(rt, number, self.records.len(), own)?;
         }
@@ -138,6 +156,7 @@ impl Made {
         let Made {
             realm,
             last: _,
+            has_service,
             records,
             warner,
         } = self;
@@ -145,6 +164,9 @@ impl Made {
             let fault = TextFault::Line(count.saturating_add(1), LineFault::NoRealm);
             return Err(stop_of(rt, path, fault));
         };
+        if !has_service {
+            return Err(no_service(rt.alloc(), path, &realm.name));
+        }
         let realm = RealmParameters {
             name: realm.name,
             settings: realm.settings,
@@ -155,6 +177,32 @@ impl Made {
             records,
             warner,
         })
+    }
+}
+
+// A disabled account has no record. That of the ticket-granting service is never one.
+fn check_disabled(alloc: Global, path: &str, number: usize, is_service: bool) -> Result<(), Stop> {
+    if is_service {
+        return Err(refused(
+            alloc,
+            format_args!(
+                "{path}:{number}: the account of the ticket-granting service is disabled: expected no #disabled before its name"
+            ),
+        ));
+    }
+    Ok(())
+}
+
+// The stop of a text without the account of the realm's ticket-granting service.
+fn no_service(alloc: Global, path: &str, realm: &GeneralStringAsn1) -> Stop {
+    match service_name(alloc, realm) {
+        Ok(name) => refused(
+            alloc,
+            format_args!(
+                "{path}: expected a line of {name}, the account of the ticket-granting service, as add -k random TEXT {name} writes it"
+            ),
+        ),
+        Err(_) => Stop::Memory,
     }
 }
 

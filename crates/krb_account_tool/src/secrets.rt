@@ -1,15 +1,20 @@
 //! Passwords and keys, which come by standard input.
 
+use crate::arguments::KeySource;
 use krb_account_texts::{LineFault, read_key};
 use krb_accounts::password_salt;
 use krb_commands::{Stop, failed, refused};
-use krb_crypto::{CipherSuite, KerberosCryptoError, Key};
+use krb_crypto::{Cipher, CipherSuite, KerberosCryptoError, Key};
 use picky_asn1::wrapper::{GeneralStringAsn1, OctetStringAsn1};
 use std::alloc::{AllocError, Global};
 use std::io::{ErrorKind, Read};
+use std::random::RandomSource;
 
 /// How many octets standard input may have.
 const SECRET_LIMIT: usize = 4_096;
+
+/// How many octets the largest seed of a key has.
+const SEED_ROOM: usize = 32;
 
 /// A key, and the salt with which it was made of a password, if it was.
 #[derive(Drop)]
@@ -20,8 +25,57 @@ pub(crate) struct SaltedKey {
     pub(crate) salt: Option<OctetStringAsn1>,
 }
 
+/// Of what a key is made.
+#[derive(Drop)]
+pub(crate) enum KeyInput {
+    /// A password.
+    Password(Vec<u8>),
+    /// The key's hexadecimal digits.
+    Digits(Vec<u8>),
+    /// Random octets.
+    Random,
+}
+
+/// What this source gives: where a line of standard input is wanted, that line.
+pub(crate) fn input_of(rt: &HostRuntime, source: KeySource) -> Result<KeyInput, Stop> {
+    match source {
+        KeySource::Password => Ok(KeyInput::Password(read_secret(rt)?)),
+        KeySource::Digits => Ok(KeyInput::Digits(read_secret(rt)?)),
+        KeySource::Random => Ok(KeyInput::Random),
+    }
+}
+
+/// The key of a suite that is made of no password: that of hexadecimal digits, or of random octets.
+pub(crate) fn key_without_password(
+    rt: &HostRuntime,
+    suite: CipherSuite,
+    input: &KeyInput,
+) -> Result<SaltedKey, Stop> {
+    match input {
+        KeyInput::Random => random_key(rt, suite),
+        KeyInput::Password(line) | KeyInput::Digits(line) => key_of_digits(rt.alloc(), suite, line),
+    }
+}
+
+// A key of the system's random octets (RFC 3961, section 3, random-to-key): of triple DES it has odd parity and no weak part.
+#[tactic(auto, using(crate::proofs::Seeds::seed_room))]
+fn random_key(rt: &HostRuntime, suite: CipherSuite) -> Result<SaltedKey, Stop> {
+    let mut octets = [0; SEED_ROOM];
+    if let Err(fault) = rt.fill_bytes(&mut octets) {
+        return Err(failed(
+            rt.alloc(),
+            format_args!("the system's random octets can't be read: {fault}"),
+        ));
+    }
+    let size = suite.seed_bit_len() / 8;
+    match Key::of_seed(rt.alloc(), suite, &octets[..size]) {
+        Ok(key) => Ok(SaltedKey { key, salt: None }),
+        Err(_) => Err(Stop::Memory),
+    }
+}
+
 /// The one line of standard input, without its end.
-pub(crate) fn read_secret(rt: &HostRuntime) -> Result<Vec<u8>, Stop> {
+fn read_secret(rt: &HostRuntime) -> Result<Vec<u8>, Stop> {
     let mut octets = Vec::new(rt.alloc());
     if let Err(fault) = rt
         .stdin()
@@ -48,12 +102,8 @@ pub(crate) fn read_secret(rt: &HostRuntime) -> Result<Vec<u8>, Stop> {
     Ok(octets)
 }
 
-/// The key of a suite that hexadecimal digits write.
-pub(crate) fn key_of_digits(
-    alloc: Global,
-    suite: CipherSuite,
-    digits: &[u8],
-) -> Result<SaltedKey, Stop> {
+// The key of a suite that hexadecimal digits write.
+fn key_of_digits(alloc: Global, suite: CipherSuite, digits: &[u8]) -> Result<SaltedKey, Stop> {
     let digits = str::from_utf8(digits).unwrap_or("");
     match read_key(alloc, suite, digits) {
         Ok(key) => Ok(SaltedKey { key, salt: None }),

@@ -4,9 +4,10 @@ use krb_account_texts::{
     AccountLine, Line, RealmLine, TextFault, check_order, place_of, read_lines, realm_among,
     text_of,
 };
-use krb_commands::{FileKind, NewFile, Stop, octets_of, refused};
+use krb_commands::{FileKind, NewFile, Printable, Stop, octets_of, refused};
+use krb_types::data_types::PrincipalName;
 use picky_asn1::wrapper::GeneralStringAsn1;
-use std::alloc::Global;
+use std::alloc::{AllocError, Global};
 
 /// The lines of the text in a file.
 pub(crate) fn lines_of(rt: &HostRuntime, path: &str) -> Result<Vec<Line>, Stop> {
@@ -56,11 +57,13 @@ pub(crate) fn realm_of<'a>(
 ) -> Result<&'a RealmLine, Stop> {
     match realm_among(lines) {
         Some(realm) => Ok(realm),
-        None => Err(refused(
-            rt.alloc(),
-            format_args!("{path}: expected the line of a realm"),
-        )),
+        None => Err(unnamed_realm(rt.alloc(), path)),
     }
+}
+
+/// The stop of a text without a realm.
+pub(crate) fn unnamed_realm(alloc: Global, path: &str) -> Stop {
+    refused(alloc, format_args!("{path}: expected the line of a realm"))
 }
 
 /// The account of a name.
@@ -73,6 +76,13 @@ pub(crate) fn account_among<'a>(
         Line::Account(own) => Some(own),
         _ => None,
     }
+}
+
+/// The text of a name, as a line shows it: what isn't printable is escaped.
+pub(crate) fn printed(alloc: Global, name: &PrincipalName) -> Result<String, AllocError> {
+    let text = format!(in alloc; "{name}")?;
+    let text = Printable(text.as_bytes());
+    format!(in alloc; "{text}")
 }
 
 /// Puts the octets into the place of the file that is made, or nothing if they were refused.
@@ -109,8 +119,7 @@ pub(crate) fn finish_text(
     }
 }
 
-// The text of lines. It is read again before it is written: a text that is not read as these lines is none. An account whose line begins
-// with `#` would be read as a comment.
+// The text of lines. It is read again before it is written: a text that is not read as these lines is none.
 fn whole_text(rt: &HostRuntime, lines: &[Line]) -> Result<String, Stop> {
     let alloc = rt.alloc();
     let text = text_of(alloc, lines)?;
@@ -122,7 +131,7 @@ fn whole_text(rt: &HostRuntime, lines: &[Line]) -> Result<String, Stop> {
     if !is_read {
         return Err(refused(
             alloc,
-            "the new text would not be read again: expected a realm of printable characters, and no name that begins with #",
+            "the new text would not be read again: expected a realm of printable characters",
         ));
     }
     Ok(text)

@@ -1,14 +1,14 @@
 //! What is likely a slip in an account, by the rules for settings files.
 
 use crate::secrets::octets_of;
-use crate::texts::account_among;
-use krb_account_texts::{Line, RealmLine};
+use crate::texts::{account_among, printed};
+use krb_account_texts::{Line, RealmLine, is_krbtgt};
 use krb_commands::{Stop, print_line, printable_of};
 use krb_crypto::CipherSuite;
 use krb_settings::{AccountSettings, RealmSettings, Secret};
 use krb_settings_check::warnings_of;
 use krb_types::data_types::PrincipalName;
-use krb_types::{krbtgt, krbtgt_of};
+use krb_types::krbtgt_of;
 use std::alloc::{AllocError, Global};
 use std::fmt::Display;
 
@@ -38,10 +38,7 @@ pub(crate) struct RealmKey {
 
 /// Whether a name is that of the ticket-granting service of the realm of this name.
 pub(crate) fn is_service(realm: &[u8], name: &PrincipalName) -> bool {
-    let [first, second] = name.name_string.0.as_slice() else {
-        return false;
-    };
-    first.as_bytes() == krbtgt() && second.as_bytes() == realm
+    is_krbtgt(realm, name.name_string.0.as_slice())
 }
 
 impl RealmKey {
@@ -118,6 +115,7 @@ pub(crate) fn warn_of_account(
     secret: Secret,
 ) -> Result<(), Stop> {
     let settings = settings_of_account(rt.alloc(), realm, name, suite, secret)?;
+    let name = printed(rt.alloc(), name)?;
     warn_by(rt, stream, &settings, OF_ACCOUNT, format_args!("{name}: "))
 }
 

@@ -1,5 +1,5 @@
 -- What the program's arguments ask for.
-use Rattle.std.specs.Prelude.{◌≡◌, ◌&&◌, ℕ, nat_eq, Bool, true, false, not, if◌then◌else◌, List, [], ◌∷◌, Option, Some, None, codes, refl}
+use Rattle.std.specs.Prelude.{◌≡◌, ◌&&◌, ◌||◌, ℕ, nat_eq, Bool, true, false, not, if◌then◌else◌, List, [], ◌∷◌, Option, Some, None, codes, refl}
 use Rattle.std.specs.List.{starts_with}
 use Rattle.std.specs.Cmp.Lexicographic.{pointwise}
 use Rattle.krb_daemon.specs.declared.arguments.Command.{Command}
@@ -8,15 +8,16 @@ use Rattle.krb_daemon.specs.declared.arguments.Command.TheVariants.{Serve, Help,
 abbrev pub Text : Type 0
 Text = List ℕ
 
--- to serve a database, with these random octets, and whether there is a log; to say how the program is used; to say its version
+-- to serve a database, with these random octets, whether there is a log, and whether the octets may be those of a regular file; to say how the
+-- program is used; to say its version
 pub data Asked : Type 0 where
-  ToServe : Text → Text → Bool → Asked
+  ToServe : Text → Text → Bool → Bool → Asked
   ToHelp : Asked
   ToVersion : Asked
 
 -- What a command asks for.
 abbrev pub asked : Command → Asked
-asked (Serve served) = ToServe served.database.now served.words.now served.is_logged
+asked (Serve served) = ToServe served.database.now served.words.now served.is_logged served.may_be_fixed
 asked Help = ToHelp
 asked Version = ToVersion
 
@@ -24,25 +25,29 @@ asked Version = ToVersion
 abbrev pub is_path : Text → Bool
 is_path word = not (starts_with nat_eq word (codes "--"))
 
--- The command to serve this database with this file of random octets, logged or not, if both are paths.
-abbrev pub served : Text → Text → Bool → Option Asked
-served database words is_logged = if is_path database && is_path words then Some (ToServe database words is_logged) else None
+-- The command to serve this database with this file of random octets, logged or not, which may be fixed or not, if both are paths.
+abbrev pub served : Text → Text → Bool → Bool → Option Asked
+served database words is_logged may_be_fixed = if is_path database && is_path words then Some (ToServe database words is_logged may_be_fixed) else None
 
 -- What one word asks for.
 abbrev pub command_named : Text → Option Asked
 command_named word =
-    if pointwise nat_eq word (codes "--help") then Some ToHelp
+    if pointwise nat_eq word (codes "-h") || pointwise nat_eq word (codes "--help") then Some ToHelp
     else (if pointwise nat_eq word (codes "--version") then Some ToVersion else None)
 
--- What arguments of these texts ask for: `DATABASE WORDS [--log]`, `--help` or `--version`.
+-- What arguments of these texts ask for: `DATABASE WORDS [--log] [--fixed-words]`, `-h`, `--help` or `--version`.
 abbrev pub command_in : List Text → Option Asked
 command_in [] = None
 command_in (word ∷ []) = command_named word
-command_in (database ∷ words ∷ []) = served database words false
-command_in (database ∷ words ∷ option ∷ []) = if pointwise nat_eq option (codes "--log") then served database words true else None
-command_in (database ∷ words ∷ option ∷ further ∷ more) = None
+command_in (database ∷ words ∷ []) = served database words false false
+command_in (database ∷ words ∷ option ∷ []) =
+    if pointwise nat_eq option (codes "--log") then served database words true false
+    else (if pointwise nat_eq option (codes "--fixed-words") then served database words false true else None)
+command_in (database ∷ words ∷ log ∷ fixed ∷ []) =
+    if pointwise nat_eq log (codes "--log") && pointwise nat_eq fixed (codes "--fixed-words") then served database words true true else None
+command_in (database ∷ words ∷ log ∷ fixed ∷ further ∷ more) = None
 
-logged : command_in (codes "realm.cdb" ∷ codes "/dev/urandom" ∷ codes "--log" ∷ []) ≡ Some (ToServe (codes "realm.cdb") (codes "/dev/urandom") true)
+logged : command_in (codes "realm.cdb" ∷ codes "/dev/urandom" ∷ codes "--log" ∷ []) ≡ Some (ToServe (codes "realm.cdb") (codes "/dev/urandom") true false)
 logged = refl
 
 no_path : command_in (codes "--log" ∷ codes "realm.cdb" ∷ []) ≡ None

@@ -1,2 +1,3 @@
 pub mod Commands
 pub mod Stops
+pub mod Words

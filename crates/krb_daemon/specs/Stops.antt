@@ -5,13 +5,15 @@ use Rattle.krb_frames.specs.declared.fault.ServeFault.TheVariants as fault
 use Rattle.krb_daemon.specs.declared.stop.Device.{Device}
 use Rattle.krb_daemon.specs.declared.stop.Device.TheVariants as device
 use Rattle.krb_daemon.specs.declared.stop.Stop.{Stop}
-use Rattle.krb_daemon.specs.declared.stop.Stop.TheVariants.{Arguments, Database, Words, Memory, Serving}
+use Rattle.krb_daemon.specs.declared.stop.Stop.TheVariants.{Arguments, Database, Words, FixedWords, RepeatedWords, Memory, Serving}
 
 -- 1 if nothing was served, 2 if serving stopped early
 abbrev pub status_of : Stop → ℕ
 status_of Arguments = 1
 status_of (Database path fault) = 1
 status_of (Words path kind) = 1
+status_of (FixedWords path) = 1
+status_of (RepeatedWords path) = 1
 status_of Memory = 1
 status_of (Serving device fault) = 2
 
@@ -35,8 +37,10 @@ device_text (device.Words path) = path.now ++ codes ": "
 
 -- The line of a stop. The words of a system's fault have no contract, so a line that shows one has none.
 abbrev pub stop_text : Stop → Option (List ℕ)
-stop_text Arguments = Some (codes "arguments: expected DATABASE WORDS [--log], --help or --version")
+stop_text Arguments = Some (codes "arguments: expected DATABASE WORDS [--log] [--fixed-words], --help or --version")
 stop_text (Database path fault) = None
 stop_text (Words path kind) = None
+stop_text (FixedWords path) = Some (path.now ++ codes ": is a regular file: expected a device of random octets, as /dev/urandom, or --fixed-words for a test")
+stop_text (RepeatedWords path) = Some (path.now ++ codes ": gives one octet again and again: expected random octets, as /dev/urandom")
 stop_text Memory = Some (codes "out of memory: expected room for the realm's record")
 stop_text (Serving device fault) = Some (device_text device ++ serving_text fault)

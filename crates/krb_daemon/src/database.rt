@@ -3,14 +3,15 @@
 use crate::arguments::Served;
 use crate::serving::serve_by_clock;
 use crate::stop::{Device, Stop};
-use byte_streams::{Sink, Source, Watched};
+use crate::warning::warn_of_mode;
+use crate::words::open_words;
+use byte_streams::{Sink, Source};
 use krb_account_files::realm_of;
 use krb_file_realms::{AtPath, FileFault, FileRealm, Opens, Tells};
 use krb_frames::ServeFault;
 use krb_log::Logged;
 use std::alloc::Global;
-use std::fs::{self, File, Files};
-use std::io::ErrorKind;
+use std::fs::{File, Files};
 use std::time::Clock;
 
 // Says on standard error why a database can't be used.
@@ -31,8 +32,9 @@ impl<'a, F: Eprint> Tells for Reported<'a, F> {
 /// Answers the frames of `reader` on `writer` for the realm of a database, which is opened anew for each message, as the clock is read for
 /// each.
 ///
-/// It stops before the first message if the database has no realm that can be read, or if the file of random octets can't be opened. If
-/// the database can't be used later on, it stops at that message. What was wrong has been said on standard error then.
+/// It stops before the first message if the database has no realm that can be read, or if the file of random octets can't be opened, or
+/// gives none. If the database can't be used later on, it stops at that message. What was wrong has been said on standard error then.
+/// It warns on standard error where others may read or write the database.
 pub fn serve_database<'a, F: Files<File = File> + Clock + Eprint + AllocGlobal, R: Source, W: Sink>(
     rt: &F,
     served: Served<'a>,
@@ -44,7 +46,8 @@ pub fn serve_database<'a, F: Files<File = File> + Clock + Eprint + AllocGlobal, 
         path: served.database,
     };
     find_realm(rt.alloc(), &accounts)?;
-    let mut words = open_words(rt, served.words)?;
+    warn_of_mode(rt, served.database);
+    let mut words = open_words(rt, served)?;
     match serve_opened(rt, &accounts, served.is_logged, &mut words, reader, writer) {
         Ok(_) => Ok(()),
         Err(fault) => {
@@ -101,15 +104,6 @@ fn find_realm<'a, F: Files<File = File>>(
             Some(fault) => Err(Stop::Database(accounts.path, fault)),
             None => Err(Stop::Memory),
         },
-    }
-}
-
-// The file of random octets. It isn't buffered: each message takes its own octets and no more.
-fn open_words<'a, F: Files>(files: &F, path: &'a str) -> Result<Watched<F::File>, Stop<'a>> {
-    match fs::open(files, path) {
-        Ok(file) => Ok(Watched::new(file)),
-        Err(fault) if fault.kind() == ErrorKind::OutOfMemory => Err(Stop::Memory),
-        Err(fault) => Err(Stop::Words(path, fault.kind())),
     }
 }
 

@@ -11,11 +11,12 @@ use std::io::{self, BufReader, ErrorKind};
 use std::process::ExitCode;
 
 /// How the program is used.
-const USAGE: &str = "usage: krb_kdcd DATABASE WORDS [--log] | --help | --version
+const USAGE: &str = "usage: krb_kdcd DATABASE WORDS [--log] [--fixed-words] | --help | --version
 
 Answers Kerberos messages (RFC 4120) for the realm of a file of accounts. Each frame of standard input, a message after its length in
 four octets, the highest first, is answered by a frame on standard output: of length 0 if the message is no request. DATABASE is opened
-anew for each message. WORDS is a file of random octets, as /dev/urandom. With --log each message has a line on standard error.
+anew for each message. WORDS is a file of random octets, as /dev/urandom. With --log each message has a line on standard error. With
+--fixed-words WORDS may be a regular file, as a test has it: else it is refused, and so is one whose first 128 octets are the same.
 Status 0: the input ended. Status 1: nothing was served. Status 2: it stopped early.";
 
 /// The whole program over its process, as its usage says. It says on standard error in one line why it stopped, and returns its status.

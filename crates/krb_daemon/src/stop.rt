@@ -17,6 +17,10 @@ pub enum Stop<'a> {
     Database(&'a str, FileFault),
     /// The file of random octets with this path can't be opened.
     Words(&'a str, ErrorKind),
+    /// The file of random octets with this path is a regular file, whose octets are the same at each start.
+    FixedWords(&'a str),
+    /// The file of random octets with this path begins with one octet that is repeated.
+    RepeatedWords(&'a str),
     /// Memory ran out before the first message.
     Memory,
     /// Serving stopped, at this device.
@@ -40,7 +44,12 @@ impl Stop<'_> {
         ensures { result ≡ status_of self.entry }
     {
         match self {
-            Stop::Arguments | Stop::Database(_, _) | Stop::Words(_, _) | Stop::Memory => 1,
+            Stop::Arguments
+            | Stop::Database(_, _)
+            | Stop::Words(_, _)
+            | Stop::FixedWords(_)
+            | Stop::RepeatedWords(_)
+            | Stop::Memory => 1,
             Stop::Serving(_, _) => 2,
         }
     }
@@ -54,12 +63,22 @@ impl<'a> fmt::Display for Stop<'a> {
     fn fmt<W: fmt::Write>(&self, f: &mut fmt::Formatter<W>) -> fmt::Result {
         match self {
             Stop::Arguments => {
-                f.write_str("arguments: expected DATABASE WORDS [--log], --help or --version")
+                f.write_str(
+                    "arguments: expected DATABASE WORDS [--log] [--fixed-words], --help or --version",
+                )
             }
             Stop::Database(path, fault) => write!(f, "{path}: {fault}"),
             Stop::Words(path, kind) => write!(
                 f,
                 "{path}: can't be opened: {kind}: expected a file of random octets, as /dev/urandom"
+            ),
+            Stop::FixedWords(path) => write!(
+                f,
+                "{path}: is a regular file: expected a device of random octets, as /dev/urandom, or --fixed-words for a test"
+            ),
+            Stop::RepeatedWords(path) => write!(
+                f,
+                "{path}: gives one octet again and again: expected random octets, as /dev/urandom"
             ),
             Stop::Memory => f.write_str("out of memory: expected room for the realm's record"),
             Stop::Serving(device, fault) => {

@@ -1,5 +1,5 @@
 """Writes account_texts.txt: texts of accounts by a writer of its own, and what is said of damaged ones, written by hand."""
-import random
+import fnmatch, random
 
 random.seed(51)
 SUITES = {"aes128-cts-hmac-sha1-96": 16, "aes256-cts-hmac-sha1-96": 32, "des3-cbc-sha1-kd": 24,
@@ -17,20 +17,25 @@ def row(*fields):
 def name_text(name):
     return "/".join("".join(MARKS.get(c, chr(c)) for c in component) for component in name)
 
-def line(name, suite, kvno, salt, key):
-    return "\t".join([name_text(name), suite, str(kvno), "-" if salt is None else salt.hex(), key.hex()]) + "\n"
+def line(name, suite, kvno, salt, key, disabled=False):
+    mark = "\\" if name[0][:1] == b"#" else ""
+    fields = "\t".join([mark + name_text(name), suite, str(kvno), "-" if salt is None else salt.hex(), key.hex()])
+    return ("#disabled\t" if disabled else "") + fields + "\n"
 
 def octets(count):
     return bytes(random.randrange(256) for _ in range(count))
 
+def ascii_octets(count):
+    return bytes(random.randrange(128) for _ in range(count))
+
 def some_name():
-    return tuple(bytes(random.choice(b"abz-._ \t\n\\/@\x00\x08019") for _ in range(random.choice([1, 3, 9])))
+    return tuple(bytes(random.choice(b"abz#-._ \t\n\\/@\x00\x08019") for _ in range(random.choice([1, 3, 9])))
                  for _ in range(random.choice([1, 1, 2, 3])))
 
 def some_account(name):
     suite = random.choice(list(SUITES))
     return (name, suite, random.choice([1, 2, 9, 10, 4294967295, random.randrange(1, 2 ** 32)]),
-            random.choice([None, b"", octets(5)]), octets(SUITES[suite]))
+            random.choice([None, b"", ascii_octets(5)]), octets(SUITES[suite]), random.random() < 0.3)
 
 HEAD = "realm\tEXAMPLE.COM\t300\t36000\n"
 
@@ -54,13 +59,16 @@ for _ in range(60):
     row("remove", fold(text_of(more)), name_text(other), fold(text_of({n: a for n, a in more.items() if n != other})))
     for name in names:
         rekeyed = dict(accounts)
-        rekeyed[name] = (name, suite, accounts[name][2] + 1, None, key)
+        rekeyed[name] = (name, suite, accounts[name][2] + 1, None, key, accounts[name][5])
         spent = accounts[name][2] == 4294967295
         row("key", fold(text), name_text(name), suite, key.hex(),
             "kvno 4294967295 is the greatest: expected a new name" if spent else fold(text_of(rekeyed)))
     if other not in accounts:
         row("key", fold(text), name_text(other), suite, key.hex(), "no such account")
-        row("remove", fold(text), name_text(other), "no such account")
+        for what in "remove", "disable", "enable":
+            row(what, fold(text), name_text(other), "no such account")
+    for what in "disable", "enable":
+        row(what, fold(text_of(more)), name_text(other), fold(text_of({**more, other: (*more[other][:5], what == "disable")})))
 
 KEY = "00" * 16
 ONE = "a\taes128-cts-hmac-sha1-96\t1\t-\t" + KEY + "\n"
@@ -69,6 +77,7 @@ NAME = "name: expected 1 to 16 components of 1 to 255 ASCII characters, with / b
 SUITE = "suite: expected one of " + ", ".join(SUITES)
 KVNO = "kvno: expected a whole number from 1 to 4294967295"
 SALT = "salt: expected pairs of hexadecimal digits, or - for none"
+SALT_OCTET = "salt: expected octets below 128"
 KEYS = "key: expected as many hexadecimal digits as a key of the suite has: 32, 48 or 64"
 REALM = "realm: expected 1 to 255 printable ASCII characters"
 SECONDS = "realm: expected a skew from 0 to 86400 seconds and a lifetime from 1 to 31536000 seconds"
@@ -77,6 +86,7 @@ NAME_OR_SUITE = SUITE
 NO_REALM = "expected the line of the realm before all accounts: realm, name, skew and lifetime"
 PKINIT = "pkinit: expected pairs of hexadecimal digits, as certify writes them"
 ORDER = "name: expected accounts in the order of their names, each name once"
+DISABLED = "expected name, suite, kvno, salt and key behind #disabled, with a tab between each two"
 COMMENTED = "# first\n#\tsecond\n" + HEAD + "# third\n" + ONE + "#\n"
 row("read", fold(COMMENTED), fold(COMMENTED))
 row("remove", fold(COMMENTED), "a", fold("# first\n#\tsecond\n" + HEAD + "# third\n#\n"))
@@ -94,6 +104,11 @@ for text, fault in [
     (HEAD + ONE.replace("\t1\t", "\t\t"), "2: " + KVNO), (HEAD + ONE.replace("\t1\t", "\t-1\t"), "2: " + KVNO),
     (HEAD + ONE.replace("\t1\t", "\t1 \t"), "2: " + KVNO), (HEAD + ONE.replace("\t1\t", "\t99999999999999999999999\t"), "2: " + KVNO),
     (HEAD + ONE.replace("\t-\t", "\t0\t"), "2: " + SALT), (HEAD + ONE.replace("\t-\t", "\t--\t"), "2: " + SALT),
+    (HEAD + ONE.replace("\t-\t", "\t80\t"), "2: " + SALT_OCTET), (HEAD + ONE.replace("\t-\t", "\t7f00ff\t"), "2: " + SALT_OCTET),
+    (HEAD + "#disabled\t\n", "2: " + DISABLED), (HEAD + "#disabled\t" + ONE.replace("\n", "\t\n"), "2: " + DISABLED),
+    (HEAD + "#disabled\trealm\tB\t300\t36000\n", "2: " + DISABLED), (HEAD + "#disabled\t" + ONE.replace("\t1\t", "\t0\t"), "2: " + KVNO),
+    (HEAD + "#disabled\t" + ONE + ONE, "3: " + ORDER), (HEAD + ONE.replace("a\t", "b\t", 1) + "#disabled\t" + ONE, "3: " + ORDER),
+    ("#disabled\t" + ONE + HEAD, "1: " + NO_REALM),
     (HEAD + ONE.replace(KEY, KEY[2:]), "2: " + KEYS), (HEAD + ONE.replace(KEY, KEY + "00"), "2: " + KEYS),
     (HEAD + ONE.replace(KEY, "g" + KEY[1:]), "2: " + KEYS), (HEAD + ONE.replace(KEY, KEY[1:]), "2: " + KEYS),
     (HEAD + ONE + ONE, "3: " + ORDER), (HEAD + ONE.replace("a\t", "b\t", 1) + "#\n" + ONE, "4: " + ORDER),
@@ -107,6 +122,37 @@ for text, fault in [
     (HEAD.replace("300", "86401").replace("\n", "\tpkinit\t0g\n"), "1: " + SECONDS),
 ]:
     row("read", fold(text), fault)
+
+# A comment has another mark. A name that begins with # is written so that its line is none.
+for comment in "#disabled\n", "#disabled a\t\n", "#Disabled\t\n", "# disabled\t\n":
+    row("read", fold(HEAD + comment + ONE), fold(HEAD + comment + ONE))
+row("read", fold(HEAD + "\\#" + ONE), fold(HEAD + "\\#" + ONE))
+row("read", fold(HEAD + "#disabled\t#" + ONE), fold(HEAD + "#disabled\t\\#" + ONE))
+row("add", fold(HEAD), "#", "aes128-cts-hmac-sha1-96", KEY, fold(HEAD + "\\#" + ONE[1:]))
+
+# The account of the realm's ticket-granting service is kept. That of another realm isn't.
+KRBTGT = ONE.replace("a\t", "krbtgt/EXAMPLE.COM\t", 1)
+OTHER = ONE.replace("a\t", "krbtgt/EXAMPLE.ORG\t", 1)
+KEPT = "the account of the ticket-granting service is kept"
+for what in "remove", "disable":
+    row(what, fold(HEAD + ONE + KRBTGT), "krbtgt/EXAMPLE.COM", KEPT)
+    row(what, fold(HEAD + ONE), "krbtgt/EXAMPLE.COM", "no such account")
+row("remove", fold(HEAD + KRBTGT + OTHER), "krbtgt/EXAMPLE.ORG", fold(HEAD + KRBTGT))
+row("disable", fold(HEAD + KRBTGT + OTHER), "krbtgt/EXAMPLE.ORG", fold(HEAD + KRBTGT + "#disabled\t" + OTHER))
+row("enable", fold(HEAD + "#disabled\t" + KRBTGT), "krbtgt/EXAMPLE.COM", fold(HEAD + KRBTGT))
+
+# Names of realms: those that MIT's kinit takes by a name and by krb5.conf.
+for realm in "EXAMPLE.COM", "example.com", "A", "A-B_C:D", "A" * 255, "~!$%&'()+,.<>?^`":
+    row("typed", realm, "yes")
+for realm in "", "A" * 256, "A B", " A", "A^tB", "A^nB", "A\x01", "A\x7f", "Ä", *("A" + mark + "B" for mark in '"#*/;=@[\\]{}'):
+    row("typed", realm, "no")
+
+# Patterns, by Python's fnmatch, which has no brackets here.
+for _ in range(150):
+    name = "".join(random.choice("ab/") for _ in range(random.randrange(7)))
+    pattern = "".join(random.choice("ab/*?") for _ in range(random.randrange(6)))
+    row("matches", pattern, name, "yes" if fnmatch.fnmatchcase(name, pattern) else "no")
+row("matches", "*a" * 30 + "b", "a" * 200, "no")
 
 # What logins by certificate are answered by, beside the realm.
 OCTETS = bytes(range(256)) * 20

@@ -1,12 +1,14 @@
 //! Texts of accounts: how a text is read, and what it is after a change. The rows come from an independent writer of texts, and their
 //! faults were written by hand (`data/account_texts.py`).
 //!
-//! A row has fields with `|` between: what is done, the text, arguments, and the outcome. In a field `^n` is a line feed and `^t` a tab.
+//! A row has fields with `|` between: what is done, the text, arguments, and the outcome. In a field `^n` is a line feed and `^t` a tab. Two
+//! kinds of rows have no text: of `typed` a realm's name, and of `matches` a pattern and a name.
 
 use anyhow::bail;
 use krb_account_texts::{
-    AccountLine, EditRefusal, Line, LineFault, TextFault, add, certify, change_key, check_order,
-    read_key, read_lines, read_name, remove, suite_named, text_of,
+    AccountLine, EditRefusal, Line, LineFault, Pattern, TextFault, add, can_be_typed, certify,
+    change_key, check_order, disable, enable, read_key, read_lines, read_name, remove, suite_named,
+    text_of,
 };
 use krb_accounts::Account;
 use krb_crypto::Key;
@@ -37,12 +39,27 @@ impl Rows for AccountTexts {
 
     fn agrees(&mut self, rt: &HostRuntime, row: &mut Row<'_>) -> anyhow::Result<bool> {
         let what = row.word();
+        if what == "typed" || what == "matches" {
+            return is_as_told(rt.alloc(), what, row);
+        }
         let text = row.word();
         let edit = edit_of(what, row);
         let expected = row.word();
         let found = outcome(rt.alloc(), text, &edit)?;
         Ok(found.as_str() == expected)
     }
+}
+
+/// Whether a name can be typed, or a pattern stands for a name, where the row has `yes`.
+fn is_as_told(alloc: Global, what: &str, row: &mut Row<'_>) -> anyhow::Result<bool> {
+    let first = unfolded(alloc, row.word())?;
+    let found = if what == "typed" {
+        can_be_typed(first.as_bytes())
+    } else {
+        let marks = first.as_bytes();
+        Pattern { marks }.matches(alloc, row.word().as_bytes())?
+    };
+    Ok(found == (row.word() == "yes"))
 }
 
 /// Reads the arguments of what is done with a text.
@@ -98,15 +115,23 @@ fn edited(
     let Ok(name) = read_name(alloc, edit.name) else {
         bail!("no name");
     };
-    if edit.what == "remove" {
-        return Ok(remove(lines, name.name_string.0.as_slice()).err());
+    let components = name.name_string.0.as_slice();
+    match edit.what {
+        "remove" => return Ok(remove(lines, components).err()),
+        "disable" => return Ok(disable(lines, components).err()),
+        "enable" => return Ok(enable(lines, components).err()),
+        _ => {}
     }
     let key = key_of(alloc, edit)?;
     if edit.what == "key" {
-        return Ok(change_key(lines, name.name_string.0.as_slice(), key, None).err());
+        return Ok(change_key(lines, components, key, None).err());
     }
-    let account = Account::new(key, 1, None);
-    Ok(add(lines, AccountLine { name, account }).err())
+    let line = AccountLine {
+        name,
+        account: Account::new(key, 1, None),
+        is_disabled: false,
+    };
+    Ok(add(lines, line).err())
 }
 
 /// What logins by certificate are answered by, or nothing for `-`.

@@ -1,4 +1,4 @@
-use Rattle.std.proofs.Common.{◌≡◌, ◌<◌, List, length, Some, sym, subst}
+use Rattle.std.proofs.Common.{◌≡◌, ◌<◌, List, length, Some, subst}
 use Rattle.krb_account_texts.specs.Edits.{place_of}
 use Rattle.krb_account_texts.specs.declared.line.Line.{Line}
 use Rattle.krb_account_texts.proofs.Places.{one-less}
@@ -6,6 +6,6 @@ use Rattle.krb_account_texts.proofs.edits.remove.Goals as goal
 
 pub returns-clause-ok : goal.returns-clause-ok
 returns-clause-ok c =
-    let found = subst (λ (lines : List Line). place_of c.args.name.now lines ≡ Some c.in-Some.place) c.deref.ensures.value (sym c.in-Some.ensures.first) in
-    let inside = subst (λ (lines : List Line). c.in-Some.place < length lines) c.deref.ensures.value c.in-Some.ensures.within in
-    one-less _ _ _ c.in-Some.place c.remove-line.result found inside c.remove-line.ensures.items
+    let found = subst (λ (lines : List Line). place_of c.args.name.now lines ≡ Some c.in_ok-place.place) c.deref.ensures.value c.in_ok-place.ensures.ok.0 in
+    let inside = subst (λ (lines : List Line). c.in_ok-place.place < length lines) c.deref.ensures.value c.in_ok-place.ensures.ok.1 in
+    one-less _ _ _ c.in_ok-place.place c.remove-line.result found inside c.remove-line.ensures.items
