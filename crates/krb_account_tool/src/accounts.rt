@@ -7,7 +7,7 @@ use crate::warnings::{RealmKey, Stream, is_service, warn_of_account, warn_of_rea
 use krb_account_texts::{
     AccountLine, EditRefusal, Line, RealmLine, add, change_key, principal_name, realm_among, remove,
 };
-use krb_accounts::{Account, Settings, USUAL_LIFETIME, USUAL_SKEW, realm_name_of};
+use krb_accounts::{Account, Policy, Settings, USUAL_LIFETIME, USUAL_SKEW, realm_name_of};
 use krb_commands::{Stop, begin, failed, refused};
 use krb_crypto::{CipherSuite, Key};
 use krb_settings::{Secret, suite_name};
@@ -18,6 +18,9 @@ use std::alloc::{AllocError, Global};
 
 /// The suite of a key for which none is given.
 const SUITE: CipherSuite = CipherSuite::Aes256CtsHmacSha196;
+
+/// The policy of a new realm.
+const NEW_POLICY: Policy = Policy { limits_des3: true };
 
 /// `create TEXT REALM`: makes a text of a realm, with the key of its ticket-granting service from standard input.
 pub(crate) fn create(rt: &HostRuntime, arguments: &[String]) -> Result<(), Stop> {
@@ -94,7 +97,7 @@ fn realm_line(alloc: Global, name: &str) -> Result<RealmLine, Stop> {
     };
     Ok(RealmLine {
         name,
-        settings,
+        settings: settings.with_policy(NEW_POLICY),
         pkinit: None,
     })
 }
