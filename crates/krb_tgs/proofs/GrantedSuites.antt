@@ -19,21 +19,22 @@ same_number [] = refl
 same_number (number ∷ numbers) =
     (λ i. if any_known (suite_numbered number) i then Some number else same_number numbers i)
 
--- the first number that is found is that of a granted suite
-pub of_granted : (without : Bool) (numbers : List ℤ) (suite : CipherSuite) → first_granted without numbers ≡ Some suite → is_granted without suite ≡ true
+-- the suite of the first number that is found is a granted one
+of_granted : (without : Bool) (numbers : List ℤ) (suite : CipherSuite) → first_granted without numbers ≡ Some suite → is_granted without suite ≡ true
 of_granted without [] suite e = absurd (cc (e))
-of_granted without (number ∷ numbers) suite e = by (suite_numbered number) refl e
+of_granted without (number ∷ numbers) suite e = by (of_granted without numbers suite) (suite_numbered number) refl e
   where
-    by : (found : Option CipherSuite) → suite_numbered number ≡ found
+    by_granted : (first_granted without numbers ≡ Some suite → is_granted without suite ≡ true) → (own : CipherSuite) → suite_numbered number ≡ Some own
+        → (is : Bool) → is_granted without own ≡ is → suite_of_first (if is then Some number else first_number without numbers) ≡ Some suite → is_granted without suite ≡ true
+    by_granted rest own f true h k =
+        let same : own ≡ suite = cc (f, k) in
+        subst (λ s. is_granted without s ≡ true) same h
+    by_granted rest own f false h k = rest k
+
+    by : (first_granted without numbers ≡ Some suite → is_granted without suite ≡ true) → (found : Option CipherSuite) → suite_numbered number ≡ found
         → suite_of_first (if option_map_or (is_granted without) found false then Some number else first_number without numbers) ≡ Some suite → is_granted without suite ≡ true
-    by None f g = of_granted without numbers suite g
-    by (Some own) f g = by_granted (is_granted without own) refl g
-      where
-        by_granted : (is : Bool) → is_granted without own ≡ is → suite_of_first (if is then Some number else first_number without numbers) ≡ Some suite → is_granted without suite ≡ true
-        by_granted true h k =
-            let same : own ≡ suite = cc (f, k) in
-            subst (λ s. is_granted without s ≡ true) same h
-        by_granted false h k = of_granted without numbers suite k
+    by rest None f g = rest g
+    by rest (Some own) f g = by_granted rest own f (is_granted without own) refl g
 
 pub never_des3 : (policy : Policy) (client : Option AccountRecord) (service : AccountRecord) (numbers : List ℤ)
     → policy.limits_des3 ≡ true → has_des3_key client ≡ false → has_des3_key (Some service) ≡ false
