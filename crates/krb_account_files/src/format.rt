@@ -7,8 +7,11 @@ pub const RECORD_VERSION: u8 = 1;
 pub const ACCOUNT_HEAD: usize = 7;
 
 /// How many octets the realm's record has in front: the version, the clock skew, the greatest lifetime, how many octets logins by
-/// certificate are answered by, and four zeros.
+/// certificate are answered by, and the policy.
 pub const REALM_HEAD: usize = 17;
+
+/// The policy that limits session keys of triple DES, as the realm's record has it. No policy is 0, and no other number is one.
+pub const LIMITS_DES3: u32 = 1;
 
 /// How many octets a record has at most: enough for the salt of a name of 16 components and of a realm's name, each of 255 characters.
 pub const RECORD_ROOM: usize = 8_192;

@@ -1,14 +1,14 @@
 //! The record of the realm.
 ghost use Rattle.std.specs.Prelude.{◌≡◌, Some, IfOk, IsTrue};
 ghost use Rattle.std.specs.Option.{option_copied};
-ghost use Rattle.krb_account_files.specs.RealmRecords.{is_pkinit, named_realm, pkinit_in, pkinit_octets, realm_bytes, realm_in, settings_of};
+ghost use Rattle.krb_account_files.specs.RealmRecords.{is_pkinit, named_realm, pkinit_in, pkinit_octets, policy_number, realm_bytes, realm_in, settings_of};
 ghost use Rattle.krb_account_files.specs.Reading.{IsReadAs};
 
 use crate::fault::RecordFault;
-use crate::format::{PKINIT_ROOM, REALM_HEAD, RECORD_VERSION};
+use crate::format::{LIMITS_DES3, PKINIT_ROOM, REALM_HEAD, RECORD_VERSION};
 use crate::realm_parameters::RealmParameters;
 use byte_layouts::{u32_le, u32_le_bytes};
-use krb_accounts::{RealmRefusal, Settings, realm_name_of};
+use krb_accounts::{Policy, RealmRefusal, Settings, realm_name_of};
 use picky_asn1::wrapper::OctetStringAsn1;
 use std::alloc::{AllocError, Global};
 
@@ -22,12 +22,12 @@ pub fn read_realm(alloc: Global, bytes: &[u8]) -> Result<RealmParameters, Record
         return Err(RecordFault::Damaged);
     }
     let size = u32_le(bytes, 9) as usize;
-    if u32_le(bytes, 13) != 0 || bytes.len() - REALM_HEAD < size {
+    if bytes.len() - REALM_HEAD < size {
         return Err(RecordFault::Damaged);
     }
     let skew = u64::from(u32_le(bytes, 1));
     let lifetime = u64::from(u32_le(bytes, 5));
-    let Some(settings) = settings_of(skew, lifetime) else {
+    let Some(settings) = settings_of(skew, lifetime, u32_le(bytes, 13)) else {
         return Err(RecordFault::Damaged);
     };
     let pkinit = pkinit_in(alloc, &bytes[REALM_HEAD..REALM_HEAD + size])?;
@@ -45,14 +45,26 @@ fn pkinit_in(alloc: Global, octets: &[u8]) -> Result<Option<OctetStringAsn1>, Al
     Ok(Some(OctetStringAsn1::from(own)))
 }
 
-// Returns the settings of this clock skew and greatest lifetime, if a realm may have them.
-fn settings_of(skew: u64, lifetime: u64) -> Option<Settings>
-    ensures { result ≡ settings_of skew lifetime }
+// Returns the settings of this clock skew, this greatest lifetime and the policy of this number, if a realm may have them.
+fn settings_of(skew: u64, lifetime: u64, policy: u32) -> Option<Settings>
+    ensures { result ≡ settings_of skew lifetime policy }
 {
     let Ok(settings) = Settings::new(skew, lifetime) else {
         return None;
     };
-    Some(settings)
+    if LIMITS_DES3 < policy {
+        return None;
+    }
+    Some(settings.with_policy(Policy {
+        limits_des3: policy == LIMITS_DES3,
+    }))
+}
+
+// Returns the number of a policy.
+fn policy_number(policy: Policy) -> u32
+    ensures { result ≡ policy_number policy }
+{
+    if policy.limits_des3 { LIMITS_DES3 } else { 0 }
 }
 
 // Returns the realm of this name, these settings and these octets, if the name may be a realm's.
@@ -109,7 +121,7 @@ pub fn realm_bytes(alloc: Global, realm: &RealmParameters) -> Result<Vec<u8>, Al
     bytes.extend_from_slice(&u32_le_bytes(realm.settings.lifetime() as u32))?;
     let pkinit = pkinit_octets(&realm.pkinit);
     bytes.extend_from_slice(&u32_le_bytes(pkinit.len() as u32))?;
-    bytes.extend_from_slice(&u32_le_bytes(0))?;
+    bytes.extend_from_slice(&u32_le_bytes(policy_number(realm.settings.policy())))?;
     bytes.extend_from_slice(pkinit)?;
     bytes.extend_from_slice(realm.name.as_bytes())?;
     Ok(bytes)

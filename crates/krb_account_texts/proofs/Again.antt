@@ -1,4 +1,5 @@
 -- What is written of a line is read as that line.
+use Rattle.std.specs.Prelude.{if◌then◌else◌}
 use Rattle.std.proofs.Common.{◌≡◌, inl, inr, cond, ℕ, zero, suc, ◌/◌, ◌<◌, ◌≤◌, ◌^◌, ◌==◌, ◌&&◌, nat_eq, nat_le, not, Bool, true, false, List, [], ◌∷◌, ◌++◌, length, slice_index, codes, Option, None, Some, Ok, IsTrue, refl, ap, sym, subst, ◌∙◌, arith}
 use Rattle.std.specs.List.{list_all}
 use Rattle.std.specs.Option.{option_map}
@@ -16,13 +17,14 @@ use Rattle.krb_types.proofs.PrintedNames.{name-read}
 use Rattle.krb_accounts.specs.Account.{AccountRecord}
 use Rattle.krb_accounts.specs.Names.{AreComponents, is_realm_name}
 use Rattle.krb_accounts.specs.Settings.{SettingsRecord}
+use Rattle.krb_accounts.specs.declared.policy.TheConstants.{NO_POLICY}
 use Rattle.krb_crypto.specs.Suites.{cipher_key_size}
 use Rattle.krb_crypto.specs.declared.suite.CipherSuite.{CipherSuite}
 use Rattle.krb_crypto.specs.declared.suite.CipherSuite.TheVariants.{Aes128CtsHmacSha196, Aes256CtsHmacSha196, Des3CbcSha1Kd, Aes128CtsHmacSha256128, Aes256CtsHmacSha384192}
 use Rattle.krb_settings.specs.Fields.{suite_name}
-use Rattle.krb_account_texts.specs.Lines.{WrittenLine, comment, realm, account, account_fields, disabled_mark, guarded, line_text, realm_text, salt_text}
-use Rattle.krb_account_texts.specs.Reading.{account_in, disabled_of, fields, is_disabled, is_printed, judged_kvno, judged_name, key_in, kvno_in, line_in, line_of, name_in, realm_in, realm_name_in, salt_in, seconds_in, settings_of, suite_in}
-use Rattle.krb_account_texts.specs.Writable.{IsAccount, IsComment, IsRealm, IsSalt, IsWritable}
+use Rattle.krb_account_texts.specs.Lines.{WrittenLine, comment, realm, account, account_fields, disabled_mark, guarded, line_text, pkinit_text, realm_text, salt_text}
+use Rattle.krb_account_texts.specs.Reading.{account_in, disabled_of, fields, is_disabled, is_printed, judged_kvno, judged_name, key_in, kvno_in, line_in, line_of, name_in, pkinit_in, policy_in, realm_in, realm_name_in, salt_in, seconds_in, settings_of, suite_in}
+use Rattle.krb_account_texts.specs.Writable.{ArePkinitBytes, IsAccount, IsComment, IsRealm, IsSalt, IsWritable}
 use Rattle.krb_account_texts.proofs.Numbers.{decimal-read}
 use Rattle.krb_account_texts.proofs.Plain.{all-both, all-cons, is_all_plain, is_plain, no_feed, no_tab, plain-decimal, plain-hex, plain-name, plain-suite, split-last, split-part}
 
@@ -183,7 +185,8 @@ seconds-again : (seconds : ℕ) → seconds < 4294967296 → seconds_in (decimal
 unfolding seconds_in
 seconds-again seconds fits = rw (decimal-read seconds fits) refl
 
-settings-again : (settings : SettingsRecord) → settings.skew ≤ 86400 → 1 ≤ settings.lifetime → settings.lifetime ≤ 31536000 → settings_of settings.skew settings.lifetime ≡ Ok settings
+settings-again : (settings : SettingsRecord) → settings.skew ≤ 86400 → 1 ≤ settings.lifetime → settings.lifetime ≤ 31536000
+    → settings_of settings.skew settings.lifetime ≡ Ok (record { skew = settings.skew; lifetime = settings.lifetime; policy = NO_POLICY })
 unfolding settings_of
 settings-again settings skew from_one lifetime =
     let first : nat_le settings.skew 86400 ≡ true = grind (arith, nat_tests) in
@@ -191,22 +194,31 @@ settings-again settings skew from_one lifetime =
     let third : nat_le settings.lifetime 31536000 ≡ true = grind (arith, nat_tests) in
     rw (first, second, third) refl
 
-realm-again : (name : Bytes) (settings : SettingsRecord) (pkinit : Option Bytes) → IsRealm name settings pkinit
-    → realm_in name (decimal settings.skew) (decimal settings.lifetime) (option_map encode_lower pkinit) ≡ Ok (realm name settings pkinit)
-unfolding realm_in realm_name_in
-realm-again name settings None is =
-    let skew = is.settings_are.0 in
-    let from_one = is.settings_are.1.0 in
-    let lifetime = is.settings_are.1.1 in
-    rw (is.name_is, is.printed, seconds-again settings.skew (omega arith), seconds-again settings.lifetime (omega arith), settings-again settings skew from_one lifetime) refl
-realm-again name settings (Some octets) is =
-    let skew = is.settings_are.0 in
-    let from_one = is.settings_are.1.0 in
-    let lifetime = is.settings_are.1.1 in
-    let bytes = is.pkinit_are.0 in
-    let count = is.pkinit_are.1 in
+-- the field of a policy, if it has one
+abbrev policy_field : Bool → Option (List ℕ)
+policy_field limits = if limits then Some (codes "limits-des3") else None
+
+policy-again : (limits : Bool) → policy_in (policy_field limits) ≡ Ok (record { limits_des3 = limits })
+unfolding policy_in
+policy-again true = refl
+policy-again false = refl
+
+pkinit-again : (pkinit : Option Bytes) → ArePkinitBytes pkinit → pkinit_in (option_map encode_lower pkinit) ≡ Ok pkinit
+pkinit-again None are = refl
+pkinit-again (Some octets) are =
+    let bytes = are.0 in
+    let count = are.1 in
     let some : (length octets == 0) ≡ false = grind (arith, nat_tests) in
-    rw (is.name_is, is.printed, seconds-again settings.skew (omega arith), seconds-again settings.lifetime (omega arith), settings-again settings skew from_one lifetime, decode_of-encode_lower octets bytes, some) refl
+    rw (decode_of-encode_lower octets bytes, some) refl
+
+realm-again : (name : Bytes) (settings : SettingsRecord) (pkinit : Option Bytes) → IsRealm name settings pkinit
+    → realm_in name (decimal settings.skew) (decimal settings.lifetime) (policy_field settings.policy.limits_des3) (option_map encode_lower pkinit) ≡ Ok (realm name settings pkinit)
+unfolding realm_in realm_name_in
+realm-again name settings pkinit is =
+    let skew = is.settings_are.0 in
+    let from_one = is.settings_are.1.0 in
+    let lifetime = is.settings_are.1.1 in
+    rw (is.name_is, is.printed, seconds-again settings.skew (omega arith), seconds-again settings.lifetime (omega arith), settings-again settings skew from_one lifetime, policy-again settings.policy.limits_des3, pkinit-again pkinit is.pkinit_are) refl
 
 -- the parts of the realm's line
 realm-parts : (name : Bytes) (settings : SettingsRecord) (pkinit : Option Bytes) → IsRealm name settings pkinit → (last : List ℕ) (parts : List (List ℕ))
@@ -225,20 +237,51 @@ realm-parts name settings pkinit is last parts behind =
 plain-lifetime : (name : Bytes) (settings : SettingsRecord) (pkinit : Option Bytes) → IsRealm name settings pkinit → is_all_plain (decimal settings.lifetime) ≡ true
 plain-lifetime name settings pkinit is = let lifetime_is = is.settings_are.1.1 in plain-decimal settings.lifetime (omega arith)
 
+-- the further fields of the realm's line, and the line that they have
+abbrev further_fields : Bool → Option Bytes → List (List ℕ)
+further_fields false None = []
+further_fields true None = codes "policy" ∷ codes "limits-des3" ∷ []
+further_fields false (Some octets) = codes "pkinit" ∷ encode_lower octets ∷ []
+further_fields true (Some octets) = codes "policy" ∷ codes "limits-des3" ∷ codes "pkinit" ∷ encode_lower octets ∷ []
+
+abbrev further_text : Bool → Option Bytes → List ℕ
+further_text limits pkinit = (if limits then codes "\tpolicy\tlimits-des3" else []) ++ pkinit_text pkinit
+
+further-parts : (lifetime : List ℕ) → is_all_plain lifetime ≡ true → (limits : Bool) (pkinit : Option Bytes)
+    → fields (lifetime ++ further_text limits pkinit) ≡ lifetime ∷ further_fields limits pkinit
+further-parts lifetime plain false None = rw append-nil (tab-last lifetime plain)
+further-parts lifetime plain true None =
+    tab-part lifetime (codes "policy" ++ 9 ∷ codes "limits-des3") plain
+    ∙ ap (λ more. lifetime ∷ more) (tab-part (codes "policy") (codes "limits-des3") refl ∙ ap (λ more. codes "policy" ∷ more) (tab-last (codes "limits-des3") refl))
+further-parts lifetime plain false (Some octets) =
+    let digits : List ℕ = encode_lower octets in
+    tab-part lifetime (codes "pkinit" ++ 9 ∷ digits) plain
+    ∙ ap (λ more. lifetime ∷ more) (tab-part (codes "pkinit") digits refl ∙ ap (λ more. codes "pkinit" ∷ more) (tab-last digits (plain-hex octets)))
+further-parts lifetime plain true (Some octets) =
+    let digits : List ℕ = encode_lower octets in
+    let last : List ℕ = codes "pkinit" ++ 9 ∷ digits in
+    tab-part lifetime (codes "policy" ++ 9 ∷ (codes "limits-des3" ++ 9 ∷ last)) plain
+    ∙ ap (λ more. lifetime ∷ more)
+    (tab-part (codes "policy") (codes "limits-des3" ++ 9 ∷ last) refl
+    ∙ ap (λ more. codes "policy" ∷ more)
+    (tab-part (codes "limits-des3") last refl
+    ∙ ap (λ more. codes "limits-des3" ∷ more) (tab-part (codes "pkinit") digits refl ∙ ap (λ more. codes "pkinit" ∷ more) (tab-last digits (plain-hex octets)))))
+
+further-line : (name skew lifetime : List ℕ) (limits : Bool) (pkinit : Option Bytes)
+    → line_of (codes "realm" ∷ name ∷ skew ∷ lifetime ∷ further_fields limits pkinit) ≡ realm_in name skew lifetime (policy_field limits) (option_map encode_lower pkinit)
+further-line name skew lifetime false None = refl
+further-line name skew lifetime true None = refl
+further-line name skew lifetime false (Some octets) = refl
+further-line name skew lifetime true (Some octets) = refl
+
 realm-line : (name : Bytes) (settings : SettingsRecord) (pkinit : Option Bytes) → IsRealm name settings pkinit → line_in (realm_text name settings pkinit) ≡ Ok (realm name settings pkinit)
 unfolding line_in
-realm-line name settings None is =
+realm-line name settings pkinit is =
+    let limits : Bool = settings.policy.limits_des3 in
     let lifetime : List ℕ = decimal settings.lifetime in
-    let last : fields (lifetime ++ []) ≡ lifetime ∷ [] = rw append-nil (tab-last lifetime (plain-lifetime name settings None is)) in
-    let whole = realm-parts name settings None is [] [] last in
-    ap line_of (rw append-nil at whole) ∙ realm-again name settings None is
-realm-line name settings (Some octets) is =
-    let lifetime : List ℕ = decimal settings.lifetime in
-    let digits : List ℕ = encode_lower octets in
-    let last : fields (lifetime ++ 9 ∷ (codes "pkinit" ++ 9 ∷ digits)) ≡ lifetime ∷ codes "pkinit" ∷ digits ∷ [] =
-    tab-part lifetime (codes "pkinit" ++ 9 ∷ digits) (plain-lifetime name settings (Some octets) is)
-    ∙ ap (λ more. lifetime ∷ more) (tab-part (codes "pkinit") digits refl ∙ ap (λ more. codes "pkinit" ∷ more) (tab-last digits (plain-hex octets))) in
-    ap line_of (realm-parts name settings (Some octets) is (9 ∷ (codes "pkinit" ++ 9 ∷ digits)) (codes "pkinit" ∷ digits ∷ []) last) ∙ realm-again name settings (Some octets) is
+    let last = further-parts lifetime (plain-lifetime name settings pkinit is) limits pkinit in
+    ap line_of (realm-parts name settings pkinit is (further_text limits pkinit) (further_fields limits pkinit) last)
+    ∙ further-line name (decimal settings.skew) lifetime limits pkinit ∙ realm-again name settings pkinit is
 
 comment-line : (text : Bytes) → IsComment text → line_in text ≡ Ok (comment text)
 unfolding line_in
@@ -273,16 +316,25 @@ realm-front name settings pkinit is last fed =
     (fed-part name (decimal settings.skew ++ 9 ∷ (decimal settings.lifetime ++ last)) (name-printed name is.printed)
     (fed-part (decimal settings.skew) (decimal settings.lifetime ++ last) (plain-decimal settings.skew (omega arith)) fed))
 
-realm-fed : (name : Bytes) (settings : SettingsRecord) (pkinit : Option Bytes) → IsRealm name settings pkinit → list_all (λ octet. not (octet == 10)) (realm_text name settings pkinit) ≡ true
-realm-fed name settings None is =
-    let lifetime : List ℕ = decimal settings.lifetime in
-    let whole = realm-front name settings None is [] (rw append-nil (fed-plain lifetime (plain-lifetime name settings None is))) in
-    rw append-nil at whole
-realm-fed name settings (Some octets) is =
-    let lifetime : List ℕ = decimal settings.lifetime in
+further-fed : (lifetime : List ℕ) → is_all_plain lifetime ≡ true → (limits : Bool) (pkinit : Option Bytes)
+    → list_all (λ octet. not (octet == 10)) (lifetime ++ further_text limits pkinit) ≡ true
+further-fed lifetime plain false None = rw append-nil (fed-plain lifetime plain)
+further-fed lifetime plain true None = fed-part lifetime (codes "policy" ++ 9 ∷ codes "limits-des3") plain refl
+further-fed lifetime plain false (Some octets) =
     let digits : List ℕ = encode_lower octets in
-    realm-front name settings (Some octets) is (9 ∷ (codes "pkinit" ++ 9 ∷ digits))
-    (fed-part lifetime (codes "pkinit" ++ 9 ∷ digits) (plain-lifetime name settings (Some octets) is) (fed-part (codes "pkinit") digits refl (fed-plain digits (plain-hex octets))))
+    fed-part lifetime (codes "pkinit" ++ 9 ∷ digits) plain (fed-part (codes "pkinit") digits refl (fed-plain digits (plain-hex octets)))
+further-fed lifetime plain true (Some octets) =
+    let digits : List ℕ = encode_lower octets in
+    let last : List ℕ = codes "pkinit" ++ 9 ∷ digits in
+    fed-part lifetime (codes "policy" ++ 9 ∷ (codes "limits-des3" ++ 9 ∷ last)) plain
+    (fed-part (codes "policy") (codes "limits-des3" ++ 9 ∷ last) refl
+    (fed-part (codes "limits-des3") last refl (fed-part (codes "pkinit") digits refl (fed-plain digits (plain-hex octets)))))
+
+realm-fed : (name : Bytes) (settings : SettingsRecord) (pkinit : Option Bytes) → IsRealm name settings pkinit → list_all (λ octet. not (octet == 10)) (realm_text name settings pkinit) ≡ true
+realm-fed name settings pkinit is =
+    let limits : Bool = settings.policy.limits_des3 in
+    realm-front name settings pkinit is (further_text limits pkinit)
+    (further-fed (decimal settings.lifetime) (plain-lifetime name settings pkinit is) limits pkinit)
 
 fields-fed : (name : List Bytes) (own : AccountRecord) → IsAccount name own → list_all (λ octet. not (octet == 10)) (account_fields name own) ≡ true
 fields-fed name own is =

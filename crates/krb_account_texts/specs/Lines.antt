@@ -8,6 +8,7 @@ use Rattle.picky_asn1.specs.Bytes.{Bytes}
 use Rattle.krb_types.specs.NameText.{name_text}
 use Rattle.krb_accounts.specs.Account.{AccountRecord}
 use Rattle.krb_accounts.specs.Settings.{SettingsRecord}
+use Rattle.krb_accounts.specs.declared.policy.Policy.{Policy}
 use Rattle.krb_settings.specs.Fields.{suite_name}
 use Rattle.krb_account_texts.specs.declared.line.Line.{Line}
 use Rattle.krb_account_texts.specs.declared.line.Line.TheVariants as line
@@ -30,13 +31,20 @@ abbrev pub salt_text : Option Bytes → List ℕ
 salt_text None = codes "-"
 salt_text (Some salt) = encode_lower salt
 
--- The realm's line: the word `realm`, the name, the clock skew and the greatest lifetime in seconds. If logins by certificate are answered,
--- the word `pkinit` follows, and what they are answered by in hexadecimal digits.
+-- What the realm's line says of the policy: the word `policy` and `limits-des3` where it limits session keys of triple DES, or nothing.
+abbrev pub policy_text : Policy → List ℕ
+policy_text policy = if policy.limits_des3 then codes "\tpolicy\tlimits-des3" else []
+
+-- If logins by certificate are answered, the word `pkinit`, and what they are answered by in hexadecimal digits.
+abbrev pub pkinit_text : Option Bytes → List ℕ
+pkinit_text None = []
+pkinit_text (Some octets) = codes "\tpkinit\t" ++ encode_lower octets
+
+-- The realm's line: the word `realm`, the name, the clock skew and the greatest lifetime in seconds, the policy, and what logins by
+-- certificate are answered by.
 abbrev pub realm_text : Bytes → SettingsRecord → Option Bytes → List ℕ
-realm_text name settings None =
-    codes "realm" ++ (codes "\t" ++ (name ++ (codes "\t" ++ (decimal settings.skew ++ (codes "\t" ++ decimal settings.lifetime)))))
-realm_text name settings (Some octets) =
-    codes "realm" ++ (codes "\t" ++ (name ++ (codes "\t" ++ (decimal settings.skew ++ (codes "\t" ++ (decimal settings.lifetime ++ (codes "\tpkinit\t" ++ encode_lower octets)))))))
+realm_text name settings pkinit =
+    codes "realm" ++ (codes "\t" ++ (name ++ (codes "\t" ++ (decimal settings.skew ++ (codes "\t" ++ (decimal settings.lifetime ++ (policy_text settings.policy ++ pkinit_text pkinit)))))))
 
 -- The text of a name where a line begins: a backslash (92) precedes a `#` (35), with which a comment would begin.
 abbrev pub guarded : List ℕ → List ℕ

@@ -8,6 +8,8 @@ use Rattle.krb_types.specs.NameReading.{components_in, is_ascii}
 use Rattle.krb_types.specs.declared.name_reading.NameTextFault.{NameTextFault}
 use Rattle.krb_accounts.specs.Names.{are_components, is_realm_name}
 use Rattle.krb_accounts.specs.Settings.{SettingsRecord}
+use Rattle.krb_accounts.specs.declared.policy.Policy.{Policy}
+use Rattle.krb_accounts.specs.declared.policy.TheConstants.{NO_POLICY}
 use Rattle.krb_accounts.specs.declared.settings.TheConstants.{LIFETIME_LIMIT, SKEW_LIMIT}
 use Rattle.krb_crypto.specs.declared.suite.CipherSuite.{CipherSuite}
 use Rattle.krb_crypto.specs.Suites.{cipher_key_size, cipher_suites}
@@ -107,7 +109,17 @@ seconds_in digits = ok_or (number_in digits) fault.Seconds
 -- The settings of this clock skew and greatest lifetime, if both are in their ranges.
 unfoldable pub settings_of : ℕ → ℕ → Result SettingsRecord LineFault
 settings_of skew lifetime =
-    if nat_le skew SKEW_LIMIT && (nat_le 1 lifetime && nat_le lifetime LIFETIME_LIMIT) then Ok (record { skew = skew; lifetime = lifetime }) else Err fault.Seconds
+    if nat_le skew SKEW_LIMIT && (nat_le 1 lifetime && nat_le lifetime LIFETIME_LIMIT) then Ok (record { skew = skew; lifetime = lifetime; policy = NO_POLICY })
+    else Err fault.Seconds
+
+-- The policy of a word, or none if there is no word.
+unfoldable pub policy_in : Option (List ℕ) → Result Policy LineFault
+policy_in None = Ok NO_POLICY
+policy_in (Some word) = if pointwise nat_eq word (codes "limits-des3") then Ok (record { limits_des3 = true }) else Err fault.Policy
+
+-- The settings with this policy.
+abbrev pub with_policy : Policy → SettingsRecord → SettingsRecord
+with_policy policy settings = record { skew = settings.skew; lifetime = settings.lifetime; policy = policy }
 
 -- What logins by certificate are answered by, if digits are given: one octet or more.
 abbrev pub some_pkinit : List ℕ → Result (Option Bytes) LineFault
@@ -119,20 +131,31 @@ pkinit_in None = Ok None
 pkinit_in (Some digits) = octets_told fault.Pkinit (decode_of digits) >>= some_pkinit
 
 -- The realm's line of these fields, or the first fault in their order.
-unfoldable pub realm_in : List ℕ → List ℕ → List ℕ → Option (List ℕ) → Result WrittenLine LineFault
-realm_in name skew lifetime digits = do
+unfoldable pub realm_in : List ℕ → List ℕ → List ℕ → Option (List ℕ) → Option (List ℕ) → Result WrittenLine LineFault
+realm_in name skew lifetime policy digits = do
   own_name ← realm_name_in name
   own_skew ← seconds_in skew
   own_lifetime ← seconds_in lifetime
   settings ← settings_of own_skew own_lifetime
+  own_policy ← policy_in policy
   pkinit ← pkinit_in digits
-  Ok (realm own_name settings pkinit)
+  Ok (realm own_name (with_policy own_policy settings) pkinit)
 
--- The line of these fields: of four, the first of which is the word `realm`, of these with the word `pkinit` and digits, or of five.
+-- The realm's line of three fields and one further one, which this word names: `policy` or `pkinit`.
+abbrev pub realm_with : List ℕ → List ℕ → List ℕ → List ℕ → List ℕ → Result WrittenLine LineFault
+realm_with name skew lifetime further value =
+    if pointwise nat_eq further (codes "policy") then realm_in name skew lifetime (Some value) None
+    else (if pointwise nat_eq further (codes "pkinit") then realm_in name skew lifetime None (Some value) else Err fault.Fields)
+
+-- The line of these fields: of five an account's. A realm's has the word `realm` and three fields, behind which the word `policy` and a
+-- policy may follow, and then the word `pkinit` and digits.
 abbrev pub line_of : List (List ℕ) → Result WrittenLine LineFault
-line_of (word ∷ name ∷ skew ∷ lifetime ∷ []) = if pointwise nat_eq word (codes "realm") then realm_in name skew lifetime None else Err fault.Fields
-line_of (word ∷ name ∷ skew ∷ lifetime ∷ further ∷ digits ∷ []) =
-    if pointwise nat_eq word (codes "realm") && pointwise nat_eq further (codes "pkinit") then realm_in name skew lifetime (Some digits) else Err fault.Fields
+line_of (word ∷ name ∷ skew ∷ lifetime ∷ []) = if pointwise nat_eq word (codes "realm") then realm_in name skew lifetime None None else Err fault.Fields
+line_of (word ∷ name ∷ skew ∷ lifetime ∷ further ∷ value ∷ []) =
+    if pointwise nat_eq word (codes "realm") then realm_with name skew lifetime further value else Err fault.Fields
+line_of (word ∷ name ∷ skew ∷ lifetime ∷ first ∷ policy ∷ second ∷ digits ∷ []) =
+    if pointwise nat_eq word (codes "realm") && (pointwise nat_eq first (codes "policy") && pointwise nat_eq second (codes "pkinit"))
+    then realm_in name skew lifetime (Some policy) (Some digits) else Err fault.Fields
 line_of (name ∷ suite ∷ kvno ∷ salt ∷ key ∷ []) = account_in false name suite kvno salt key
 line_of _ = Err fault.Fields
 

@@ -9,8 +9,8 @@ ghost use Rattle.krb_account_texts.specs.Steps.{IsAside, each_from};
 
 use crate::fault::{LineFault, TextFault};
 use crate::fields::{
-    kvno_of, name_of, pkinit_of, read_key, realm_name_of_text, salt_of, seconds_of, settings_of,
-    suite_of,
+    kvno_of, name_of, pkinit_of, policy_of, read_key, realm_name_of_text, salt_of, seconds_of,
+    settings_of, suite_of,
 };
 use crate::line::{AccountLine, Line, RealmLine, principal_name};
 use krb_accounts::Account;
@@ -137,45 +137,111 @@ fn line_of(alloc: Global, fields: &[&str]) -> Result<Line, LineFault>
     ensures { IsAside LineFault.Memory written (line_of (map (λ field. field.now) fields.now)) result }
 {
     match fields {
-        [word, name, skew, lifetime] => plain_realm_of(alloc, word, name, skew, lifetime),
-        [word, name, skew, lifetime, further, digits] => {
-            certified_realm_of(alloc, word, name, skew, lifetime, further, digits)
+        [word, name, skew, lifetime] => {
+            let start = RealmStart {
+                word,
+                name,
+                skew,
+                lifetime,
+            };
+            plain_realm_of(alloc, start)
+        }
+        [word, name, skew, lifetime, further, value] => {
+            let start = RealmStart {
+                word,
+                name,
+                skew,
+                lifetime,
+            };
+            realm_with(
+                alloc,
+                start,
+                Further {
+                    word: further,
+                    value,
+                },
+            )
+        }
+        [word, name, skew, lifetime, first, policy, second, digits] => {
+            let start = RealmStart {
+                word,
+                name,
+                skew,
+                lifetime,
+            };
+            realm_with_both(
+                alloc,
+                start,
+                Further {
+                    word: first,
+                    value: policy,
+                },
+                Further {
+                    word: second,
+                    value: digits,
+                },
+            )
         }
         [name, suite, kvno, salt, key] => account_of(alloc, false, name, suite, kvno, salt, key),
         _ => Err(LineFault::Fields),
     }
 }
 
+// The first four fields of a realm's line.
+#[derive(Clone, Copy)]
+struct RealmStart<'a> {
+    word: &'a str,
+    name: &'a str,
+    skew: &'a str,
+    lifetime: &'a str,
+}
+
+// A further field of a realm's line, behind the word that names it.
+#[derive(Clone, Copy)]
+struct Further<'a> {
+    word: &'a str,
+    value: &'a str,
+}
+
 // The realm's line of four fields.
-fn plain_realm_of(
-    alloc: Global,
-    word: &str,
-    name: &str,
-    skew: &str,
-    lifetime: &str,
-) -> Result<Line, LineFault>
-    ensures { IsAside LineFault.Memory written (line_of (word.now ∷ name.now ∷ skew.now ∷ lifetime.now ∷ [])) result }
+fn plain_realm_of(alloc: Global, start: RealmStart<'_>) -> Result<Line, LineFault>
+    ensures { IsAside LineFault.Memory written (line_of (start.word.now ∷ start.name.now ∷ start.skew.now ∷ start.lifetime.now ∷ [])) result }
 {
-    if word == "realm" {
-        return realm_of(alloc, name, skew, lifetime, None);
+    if start.word == "realm" {
+        return realm_of(alloc, start, None, None);
     }
     Err(LineFault::Fields)
 }
 
-// The realm's line of six fields.
-fn certified_realm_of(
-    alloc: Global,
-    word: &str,
-    name: &str,
-    skew: &str,
-    lifetime: &str,
-    further: &str,
-    digits: &str,
-) -> Result<Line, LineFault>
-    ensures { IsAside LineFault.Memory written (line_of (word.now ∷ name.now ∷ skew.now ∷ lifetime.now ∷ further.now ∷ digits.now ∷ [])) result }
+// The realm's line with one further field.
+fn realm_with(alloc: Global, start: RealmStart<'_>, further: Further<'_>) -> Result<Line, LineFault>
+    ensures { IsAside LineFault.Memory written
+        (line_of (start.word.now ∷ start.name.now ∷ start.skew.now ∷ start.lifetime.now ∷ further.word.now ∷ further.value.now ∷ [])) result }
 {
-    if word == "realm" && further == "pkinit" {
-        return realm_of(alloc, name, skew, lifetime, Some(digits));
+    if start.word != "realm" {
+        return Err(LineFault::Fields);
+    }
+    if further.word == "policy" {
+        return realm_of(alloc, start, Some(further.value), None);
+    }
+    if further.word == "pkinit" {
+        return realm_of(alloc, start, None, Some(further.value));
+    }
+    Err(LineFault::Fields)
+}
+
+// The realm's line with both further fields.
+fn realm_with_both(
+    alloc: Global,
+    start: RealmStart<'_>,
+    policy: Further<'_>,
+    pkinit: Further<'_>,
+) -> Result<Line, LineFault>
+    ensures { IsAside LineFault.Memory written
+        (line_of (start.word.now ∷ start.name.now ∷ start.skew.now ∷ start.lifetime.now ∷ policy.word.now ∷ policy.value.now ∷ pkinit.word.now ∷ pkinit.value.now ∷ [])) result }
+{
+    if start.word == "realm" && policy.word == "policy" && pkinit.word == "pkinit" {
+        return realm_of(alloc, start, Some(policy.value), Some(pkinit.value));
     }
     Err(LineFault::Fields)
 }
@@ -183,21 +249,22 @@ fn certified_realm_of(
 #[tactic(auto, unfolding(crate::specs::Reading::realm_in))]
 fn realm_of(
     alloc: Global,
-    name: &str,
-    skew: &str,
-    lifetime: &str,
+    start: RealmStart<'_>,
+    policy: Option<&str>,
     digits: Option<&str>,
 ) -> Result<Line, LineFault>
-    ensures { IsAside LineFault.Memory written (realm_in name.now skew.now lifetime.now (option_map (λ digits. digits.now) digits.entry)) result }
+    ensures { IsAside LineFault.Memory written
+        (realm_in start.name.now start.skew.now start.lifetime.now (option_map (λ word. word.now) policy.entry) (option_map (λ digits. digits.now) digits.entry)) result }
 {
-    let name = realm_name_of_text(alloc, name)?;
-    let skew = seconds_of(skew)?;
-    let lifetime = seconds_of(lifetime)?;
+    let name = realm_name_of_text(alloc, start.name)?;
+    let skew = seconds_of(start.skew)?;
+    let lifetime = seconds_of(start.lifetime)?;
     let settings = settings_of(skew, lifetime)?;
+    let policy = policy_of(policy)?;
     let pkinit = pkinit_of(alloc, digits)?;
     Ok(Line::Realm(RealmLine {
         name,
-        settings,
+        settings: settings.with_policy(policy),
         pkinit,
     }))
 }

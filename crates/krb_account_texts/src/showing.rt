@@ -2,10 +2,11 @@
 ghost use Rattle.std.specs.Prelude.{◌≡◌, ◌∷◌, ◌++◌, [], map, string_bytes, IfOk, OnOk};
 ghost use Rattle.std.specs.Option.{option_map};
 ghost use Rattle.krb_types.specs.NameText.{name_text};
-ghost use Rattle.krb_account_texts.specs.Lines.{account_fields, account_text, guarded, line_text, realm_text, salt_text, text_of, written};
+ghost use Rattle.krb_account_texts.specs.Lines.{account_fields, account_text, guarded, line_text, pkinit_text, policy_text, realm_text, salt_text, text_of, written};
 
 use crate::line::{AccountLine, Line, RealmLine};
 use crate::reading::is_comment;
+use krb_accounts::Policy;
 use krb_settings::suite_name;
 use krb_types::data_types::PrincipalName;
 use picky_asn1::wrapper::OctetStringAsn1;
@@ -47,11 +48,29 @@ fn realm_text(alloc: Global, line: &RealmLine) -> Result<String, AllocError>
     let name = &line.name;
     let skew = line.settings.skew();
     let lifetime = line.settings.lifetime();
-    match &line.pkinit {
-        None => format!(in alloc; "realm\t{name}\t{skew}\t{lifetime}"),
+    let policy = policy_text(line.settings.policy());
+    let pkinit = pkinit_text(alloc, &line.pkinit)?;
+    format!(in alloc; "realm\t{name}\t{skew}\t{lifetime}{policy}{pkinit}")
+}
+
+fn policy_text(policy: Policy) -> &'static str
+    ensures { result.now ≡ policy_text policy }
+{
+    if policy.limits_des3 {
+        "\tpolicy\tlimits-des3"
+    } else {
+        ""
+    }
+}
+
+fn pkinit_text(alloc: Global, pkinit: &Option<OctetStringAsn1>) -> Result<String, AllocError>
+    ensures { IfOk result (λ text. string_bytes text ≡ pkinit_text pkinit.now) }
+{
+    match pkinit {
+        None => Ok(String::new(alloc)),
         Some(octets) => {
             let digits = hex::encode(alloc, octets.as_bytes())?;
-            format!(in alloc; "realm\t{name}\t{skew}\t{lifetime}\tpkinit\t{digits}")
+            format!(in alloc; "\tpkinit\t{digits}")
         }
     }
 }

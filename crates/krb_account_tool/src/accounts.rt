@@ -8,7 +8,7 @@ use krb_account_texts::{
     AccountLine, EditRefusal, Line, RealmLine, add, can_be_typed, change_key, disable, enable,
     place_of, principal_name, realm_among, remove,
 };
-use krb_accounts::{Account, Settings, USUAL_LIFETIME, USUAL_SKEW, realm_name_of};
+use krb_accounts::{Account, Policy, Settings, USUAL_LIFETIME, USUAL_SKEW, realm_name_of};
 use krb_commands::{FileKind, Stop, begin, begin_first, refused};
 use krb_crypto::{CipherSuite, Key};
 use krb_settings::Secret;
@@ -19,6 +19,9 @@ use std::alloc::{AllocError, Global};
 
 /// The suite of a key for which none is given.
 const SUITE: CipherSuite = CipherSuite::Aes256CtsHmacSha196;
+
+/// The policy of a new realm.
+const NEW_POLICY: Policy = Policy { limits_des3: true };
 
 /// `create [-e SUITE] [-k [random]] TEXT REALM`: makes a text of a realm, with the key of its ticket-granting service.
 pub(crate) fn create(rt: &HostRuntime, arguments: &[String]) -> Result<(), Stop> {
@@ -105,7 +108,7 @@ fn realm_line(alloc: Global, name: &str) -> Result<RealmLine, Stop> {
     };
     Ok(RealmLine {
         name,
-        settings,
+        settings: settings.with_policy(NEW_POLICY),
         pkinit: None,
     })
 }

@@ -107,12 +107,17 @@ fn realm_listed(alloc: Global, realm: &RealmLine) -> Result<String, AllocError> 
     let name = &realm.name;
     let skew = realm.settings.skew();
     let lifetime = realm.settings.lifetime();
+    let policy = if realm.settings.policy().limits_des3 {
+        "\tlimits-des3"
+    } else {
+        ""
+    };
     let further = if realm.pkinit.is_some() {
         "\tpkinit"
     } else {
         ""
     };
-    format!(in alloc; "realm\t{name}\t{skew}\t{lifetime}{further}\n")
+    format!(in alloc; "realm\t{name}\t{skew}\t{lifetime}{policy}{further}\n")
 }
 
 fn account_listed(alloc: Global, own: &AccountLine) -> Result<String, AllocError> {

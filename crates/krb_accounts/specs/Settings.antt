@@ -1,10 +1,12 @@
--- A realm's settings: clock skew (RFC 4120, sections 1.6, 5.9.1) and the greatest lifetime of a ticket (RFC 4120, section 3.1.3).
+-- A realm's settings: clock skew (RFC 4120, sections 1.6, 5.9.1), the greatest lifetime of a ticket (RFC 4120, section 3.1.3), and its policy.
 use Rattle.std.specs.Prelude.{◌≤◌}
 use Rattle.krb_time.specs.Units.{Seconds}
+use Rattle.krb_accounts.specs.declared.policy.Policy.{Policy}
 
 pub record SettingsRecord : Type 0 where
   pub skew : Seconds
   pub lifetime : Seconds
+  pub policy : Policy
 
 -- The clock skew is a day at most.
 abbrev pub most_skew : Seconds

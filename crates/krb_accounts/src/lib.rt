@@ -11,6 +11,7 @@ mod accounts;
 mod names;
 mod packed;
 mod passwords;
+mod policy;
 mod refusal;
 mod settings;
 
@@ -21,5 +22,6 @@ pub use names::{
 };
 pub use packed::{BLOCK_ROOM, pack, pack_within};
 pub use passwords::password_salt;
+pub use policy::{NO_POLICY, Policy};
 pub use refusal::RealmRefusal;
 pub use settings::{LIFETIME_LIMIT, SKEW_LIMIT, Settings, USUAL_LIFETIME, USUAL_SKEW};

@@ -2,7 +2,9 @@
 ghost use Rattle.std.specs.Prelude.{◌≡◌, ◌≤◌, IfErr};
 ghost use Rattle.std.specs.Result.{OkIff};
 ghost use Rattle.krb_accounts.specs.Settings.{IsSkew, IsLifetime};
+ghost use Rattle.krb_accounts.specs.declared.policy.TheConstants.{NO_POLICY};
 
+use crate::policy::{NO_POLICY, Policy};
 use crate::refusal::RealmRefusal;
 use std::marker::Model;
 
@@ -18,11 +20,12 @@ pub const USUAL_SKEW: u64 = 300;
 /// How many seconds tickets last where nothing else is asked for: ten hours.
 pub const USUAL_LIFETIME: u64 = 36_000;
 
-/// A realm's settings: how far clocks may differ, and how long tickets last. A contract sees both.
+/// A realm's settings: how far clocks may differ, how long tickets last, and its policy. A contract sees all three.
 #[derive(Clone, Copy, Debug, PartialEq, Eq)]
 pub struct Settings {
     skew: u64,
     lifetime: u64,
+    policy: Policy,
 }
 
 impl Model for Settings {
@@ -30,27 +33,45 @@ impl Model for Settings {
 
     ghost Value = { SettingsRecord };
 
-    ghost view = { λ s. record { skew = s.skew; lifetime = s.lifetime } };
+    ghost view = { λ s. record { skew = s.skew; lifetime = s.lifetime; policy = s.policy } };
 
     ghost invariant = { λ s. AreSettings s.skew s.lifetime };
 
-    ghost inverse = { λ r. record { skew = r.skew; lifetime = r.lifetime } };
+    ghost inverse = { λ r. record { skew = r.skew; lifetime = r.lifetime; policy = r.policy } };
 }
 
 impl Settings {
     ghost use Rattle.krb_accounts.specs.Settings.{AreSettings};
 
-    /// Settings of a skew of 0 to 86,400 seconds and a lifetime of 1 to 31,536,000 seconds. Others are
+    /// Settings of a skew of 0 to 86,400 seconds and a lifetime of 1 to 31,536,000 seconds, with no policy. Others are
     /// refused.
     pub fn new(skew: u64, lifetime: u64) -> Result<Settings, RealmRefusal>
-        ensures value { OkIff result (AreSettings skew lifetime) (record { skew = skew; lifetime = lifetime }) }
+        ensures value { OkIff result (AreSettings skew lifetime) (record { skew = skew; lifetime = lifetime; policy = NO_POLICY }) }
         ensures refusal { IfErr result (λ e. e ≡ RealmRefusal.BadSetting) }
     {
         if skew <= SKEW_LIMIT && 1 <= lifetime && lifetime <= LIFETIME_LIMIT {
-            Ok(Settings { skew, lifetime })
+            Ok(Settings {
+                skew,
+                lifetime,
+                policy: NO_POLICY,
+            })
         } else {
             Err(RealmRefusal::BadSetting)
         }
+    }
+
+    /// These settings with this policy in place of theirs.
+    pub fn with_policy(self, policy: Policy) -> Settings
+        ensures { result ≡ record { skew = self.skew; lifetime = self.lifetime; policy = policy } }
+    {
+        Settings { policy, ..self }
+    }
+
+    /// The policy.
+    pub fn policy(self) -> Policy
+        ensures { result ≡ self.policy }
+    {
+        self.policy
     }
 
     /// How many seconds clocks may differ.

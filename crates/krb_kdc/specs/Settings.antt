@@ -4,6 +4,8 @@ use Rattle.std.specs.Prelude.{ℕ, Bool, true, false, Option, None, Some}
 use Rattle.picky_asn1.specs.Bytes.{Bytes}
 use Rattle.krb_time.specs.Units.{Seconds}
 use Rattle.krb_accounts.specs.Settings.{SettingsRecord}
+use Rattle.krb_accounts.specs.declared.policy.Policy.{Policy}
+use Rattle.krb_accounts.specs.declared.policy.TheConstants.{NO_POLICY}
 use Rattle.x509_certificates.specs.declared.certificate.Certificate.{Certificate}
 use Rattle.x509_certificates.specs.contracts.certificate.CertificateSpelled.TheImpl as certificate_impl
 use Rattle.pkinit_trust.specs.Anchors.{AnchorRecord}
@@ -26,8 +28,15 @@ IsOwnCertificate (Some bytes) = IsCertificateIf bytes true
 -- settings by these
 abbrev pub settings_by : Seconds → Seconds → Option AnchorRecord → Option Bytes → SettingsState
 settings_by skew lifetime anchor certificate = record {
-  limits = record { skew = skew; lifetime = lifetime };
+  limits = record { skew = skew; lifetime = lifetime; policy = NO_POLICY };
   trust = record { anchor = anchor; certificate = certificate };
+}
+
+-- the same settings with this policy
+abbrev pub with_policy : Policy → SettingsState → SettingsState
+with_policy policy own = record {
+  limits = record { skew = own.limits.skew; lifetime = own.limits.lifetime; policy = policy };
+  trust = own.trust;
 }
 
 -- no authority is trusted: clients authenticate by password alone

@@ -3,17 +3,18 @@ ghost use Rattle.std.specs.Prelude.{◌≡◌, ◌⊎◌, Err, IfOk, IsSome, Mat
 ghost use Rattle.std.specs.Option.{option_copied, option_map};
 ghost use Rattle.krb_accounts.specs.Settings.{AreSettings};
 ghost use Rattle.pkinit_requests.specs.Trust.{trust_of};
-ghost use Rattle.krb_kdc.specs.Settings.{IsCertificateIf, IsOwnCertificate, settings_by};
+ghost use Rattle.krb_accounts.specs.declared.policy.TheConstants.{NO_POLICY};
+ghost use Rattle.krb_kdc.specs.Settings.{IsCertificateIf, IsOwnCertificate, settings_by, with_policy};
 
 use key_functions::KeyFunctions;
-use krb_accounts::{RealmRefusal, Settings as Limits};
+use krb_accounts::{Policy, RealmRefusal, Settings as Limits};
 use pkinit_requests::RealmPkinit;
 use pkinit_trust::Anchor;
 use std::alloc::{AllocError, Global};
 use std::marker::Model;
 use x509_spelling::X509Fault;
 
-/// A realm's settings: how far clocks may differ, and how long tickets last; and for clients that authenticate by certificate
+/// A realm's settings: how far clocks may differ, how long tickets last, and its policy; and for clients that authenticate by certificate
 /// (RFC 4556), the authority that the realm trusts to issue their certificates, and the realm's own certificate. A contract
 /// sees them.
 #[derive(Drop)]
@@ -36,7 +37,7 @@ impl Model for Settings {
 }
 
 impl Settings {
-    /// Settings of a skew of 0 to 86,400 seconds and a lifetime of 1 to 31,536,000 seconds. Others are `BadSetting`.
+    /// Settings of a skew of 0 to 86,400 seconds and a lifetime of 1 to 31,536,000 seconds, with no policy. Others are `BadSetting`.
     ///
     /// Clients authenticate by certificate where an anchor and an own certificate are given. The own certificate may have any of
     /// the accepted spellings, and bytes that are no certificate are `BadSetting`. It isn't compared with the anchor or the
@@ -71,7 +72,18 @@ impl Settings {
         }
     }
 
-    /// Gives the limits: how far clocks may differ, and how long tickets last.
+    /// These settings with this policy in place of theirs.
+    pub fn with_policy(self, policy: Policy) -> Settings
+        ensures { result ≡ with_policy policy self }
+    {
+        Settings {
+            limits: self.limits.with_policy(policy),
+            anchor: self.anchor,
+            certificate: self.certificate,
+        }
+    }
+
+    /// Gives the limits: how far clocks may differ, how long tickets last, and the policy.
     pub(crate) fn limits(&self) -> Limits
         ensures { result ≡ self.now.limits }
     {
@@ -110,7 +122,7 @@ fn limits_and_certificate(
 ) -> Result<(Limits, Option<Vec<u8>>), RealmRefusal>
     ensures made { MatchResult result
         (λ parts. AreSettings skew lifetime × IsOwnCertificate (option_copied certificate.entry)
-        × (parts.0 ≡ record { skew = skew; lifetime = lifetime }) × (option_map (λ bytes. bytes.items) parts.1 ≡ option_copied certificate.entry))
+        × (parts.0 ≡ record { skew = skew; lifetime = lifetime; policy = NO_POLICY }) × (option_map (λ bytes. bytes.items) parts.1 ≡ option_copied certificate.entry))
         (λ refusal. (refusal ≡ RealmRefusal.Memory)
         ⊎ ((refusal ≡ RealmRefusal.BadSetting) × ¬ (AreSettings skew lifetime × IsOwnCertificate (option_copied certificate.entry)))) }
     ensures first { ¬ AreSettings skew lifetime → result ≡ Err RealmRefusal.BadSetting }

@@ -1,4 +1,4 @@
--- The text of an entry: exchange, client, service and answer, with a blank between them.
+-- The text of an entry: exchange, client, service, answer and the client's means, with a blank between them.
 use Rattle.std.specs.Prelude.{◌≡◌, ℕ, List, ◌++◌, codes, Option, None, Some, string_bytes, String, refl}
 use Rattle.std.specs.Global.{Global}
 use Rattle.std.specs.Fmt.{decimal}
@@ -11,6 +11,9 @@ use Rattle.krb_log.specs.declared.answer.Answer.TheVariants.{Ticket, Error, Othe
 use Rattle.krb_log.specs.declared.answer.Granted.{Granted}
 use Rattle.krb_log.specs.declared.asked.Asked.{Asked}
 use Rattle.krb_log.specs.declared.asked.Asked.TheVariants.{As, Tgs, Nothing}
+use Rattle.krb_log.specs.declared.asked.Means.{Means}
+use Rattle.krb_log.specs.declared.asked.Means.TheVariants as means
+use Rattle.krb_log.specs.declared.asked.Means.TheVariants.{Pkinit, Password}
 use Rattle.krb_log.specs.declared.entry.Entry.{Entry}
 
 -- a name, or a dash in its place
@@ -64,8 +67,20 @@ answer_text (Error code) = codes "error=" ++ code_text code
 answer_text Other = codes "other"
 answer_text (Refused refusal) = refusal_text refusal
 
+-- how the client of an AS request authenticates itself
+abbrev pub means_text : Means → List ℕ
+means_text Pkinit = codes "pkinit"
+means_text Password = codes "password"
+means_text means.Nothing = codes "none"
+
+-- how the client authenticates itself: in a TGS request by its ticket
+abbrev pub by_text : Asked → List ℕ
+by_text (As names) = means_text names.means
+by_text (Tgs names) = codes "ticket"
+by_text Nothing = codes "-"
+
 -- An entry's text.
 abbrev pub entry_text : Entry → List ℕ
 entry_text entry =
     exchange_text entry.asked ++ codes " " ++ client_text entry.asked entry.answer ++ codes " " ++ service_text entry.asked
-    ++ codes " " ++ answer_text entry.answer
+    ++ codes " " ++ answer_text entry.answer ++ codes " by=" ++ by_text entry.asked

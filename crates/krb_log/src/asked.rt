@@ -1,11 +1,14 @@
 //! What a message asks for.
 ghost use Rattle.std.specs.Prelude.{◌≡◌, IfOk};
-ghost use Rattle.krb_log.specs.Asked.{IsAsked, IsFoundIn, IsNamed};
+ghost use Rattle.krb_log.specs.Asked.{IsAsked, IsFoundIn, IsNamed, means_of};
 ghost use Rattle.krb_messages.specs.Messages.{IsAsReq, IsTgsReq};
 
 use crate::name::shown_name;
-use krb_messages::messages::{AsReq, KdcReqBody, TgsReq};
-use krb_types::data_types::{PrincipalName, Realm};
+use krb_constants::padata_types::{PA_ENC_TIMESTAMP, PA_PK_AS_REQ};
+use krb_kdc_requests::padata_in;
+use krb_messages::messages::{AsReq, KdcReq, TgsReq};
+use krb_tickets::first_of;
+use krb_types::data_types::PaData;
 use picky_asn1_der::read_whole;
 use std::alloc::{AllocError, Global};
 
@@ -20,13 +23,26 @@ pub enum Asked {
     Nothing,
 }
 
-/// The names of a request, as a line has them.
+/// How a client authenticates itself in an AS request.
+#[derive(Clone, Copy, Debug, PartialEq, Eq)]
+pub enum Means {
+    /// By its certificate: the request has padata PA-PK-AS-REQ (RFC 4556, section 3.2.1).
+    Pkinit,
+    /// By its key, which mostly is of a password: the request has padata PA-ENC-TIMESTAMP (RFC 4120, section 5.2.7.2).
+    Password,
+    /// Not at all.
+    Nothing,
+}
+
+/// The names of a request, as a line has them, and the client's means.
 #[derive(Debug, Drop)]
 pub struct Names {
     /// The client, if the request names one: a TGS request doesn't.
     pub client: Option<String>,
     /// The service, if the request names one.
     pub service: Option<String>,
+    /// How the client authenticates itself. It counts in an AS request alone.
+    pub means: Means,
 }
 
 impl Asked {
@@ -52,7 +68,7 @@ fn names_of_as(alloc: Global, message: &[u8]) -> Result<Option<Names>, AllocErro
     let Some(request) = read else {
         return Ok(None);
     };
-    let names = names_in(alloc, &request.0.req_body.0);
+    let names = names_in(alloc, &request.0);
     drop(request);
     Ok(Some(names?))
 }
@@ -65,15 +81,17 @@ fn names_of_tgs(alloc: Global, message: &[u8]) -> Result<Option<Names>, AllocErr
     let Some(request) = read else {
         return Ok(None);
     };
-    let names = names_in(alloc, &request.0.req_body.0);
+    let names = names_in(alloc, &request.0);
     drop(request);
     Ok(Some(names?))
 }
 
-// Returns the names that a request's body has.
-fn names_in(alloc: Global, body: &KdcReqBody) -> Result<Names, AllocError>
-    ensures { IfOk result (IsNamed body.now) }
+// Returns the names that a request has.
+fn names_in(alloc: Global, request: &KdcReq) -> Result<Names, AllocError>
+    ensures { IfOk result (IsNamed request.now) }
 {
+    let means = means_of(padata_in(request));
+    let body = &request.req_body.0;
     let realm = &body.realm.0;
     let client = match &body.cname.0 {
         Some(name) => Some(shown_name(alloc, &name.0, realm)?),
@@ -83,5 +101,22 @@ fn names_in(alloc: Global, body: &KdcReqBody) -> Result<Names, AllocError>
         Some(name) => Some(shown_name(alloc, &name.0, realm)?),
         None => None,
     };
-    Ok(Names { client, service })
+    Ok(Names {
+        client,
+        service,
+        means,
+    })
+}
+
+// Returns how a client authenticates itself by this padata.
+fn means_of(padata: &[PaData]) -> Means
+    ensures { result ≡ means_of padata.now }
+{
+    if first_of(padata, PA_PK_AS_REQ).is_some() {
+        return Means::Pkinit;
+    }
+    if first_of(padata, PA_ENC_TIMESTAMP).is_some() {
+        return Means::Password;
+    }
+    Means::Nothing
 }

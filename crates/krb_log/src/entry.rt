@@ -1,10 +1,10 @@
 //! An entry of the log.
 ghost use Rattle.std.specs.Prelude.{◌≡◌, IfOk};
 ghost use Rattle.krb_log.specs.Entries.{IsEntry};
-ghost use Rattle.krb_log.specs.EntryText.{client_text, exchange_text, refusal_text, service_text, shown_or_dash};
+ghost use Rattle.krb_log.specs.EntryText.{by_text, client_text, exchange_text, means_text, refusal_text, service_text, shown_or_dash};
 
 use crate::answer::{Answer, Granted};
-use crate::asked::{Asked, Names};
+use crate::asked::{Asked, Means, Names};
 use krb_constants::error_names::error_name;
 use krb_frames::AnswerRefusal;
 use std::alloc::{AllocError, Global};
@@ -34,7 +34,7 @@ impl Entry {
     }
 }
 
-/// The exchange, the client, the service, and the answer.
+/// The exchange, the client, the service, the answer, and how the client authenticates itself.
 impl fmt::Display for Entry {
     ghost use Rattle.std.specs.Prelude.{Some};
     ghost use Rattle.krb_log.specs.EntryText.{entry_text};
@@ -46,7 +46,8 @@ impl fmt::Display for Entry {
         let client = client_of(&self.asked, &self.answer);
         let service = service_of(&self.asked);
         let answer = &self.answer;
-        write!(f, "{exchange} {client} {service} {answer}")
+        let by = by_text(&self.asked);
+        write!(f, "{exchange} {client} {service} {answer} by={by}")
     }
 }
 
@@ -131,6 +132,27 @@ fn service_of(asked: &Asked) -> &str
     match asked {
         Asked::As(names) | Asked::Tgs(names) => shown(&names.service),
         Asked::Nothing => "-",
+    }
+}
+
+// Returns how the client authenticates itself, or `-`.
+fn by_text(asked: &Asked) -> &'static str
+    ensures { result.now ≡ by_text asked.now }
+{
+    match asked {
+        Asked::As(names) => means_text(names.means),
+        Asked::Tgs(_) => "ticket",
+        Asked::Nothing => "-",
+    }
+}
+
+fn means_text(means: Means) -> &'static str
+    ensures { result.now ≡ means_text means }
+{
+    match means {
+        Means::Pkinit => "pkinit",
+        Means::Password => "password",
+        Means::Nothing => "none",
     }
 }
 

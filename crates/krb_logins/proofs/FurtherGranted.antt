@@ -1,8 +1,8 @@
 -- The realm grants the ticket for the service by the first one: each row of the TGS table is passed.
 use Rattle.std.proofs.Common.{◌≡◌, ◌<◌, ◌≤◌, ℕ, ◌+◌, ◌*◌, ◌/◌, ◌%◌, true, false, not, ◌&&◌, min, List, [], ◌∷◌, Option, None, Some, Result, Ok, Err, inl, refl, sym, ap, subst, ◌∙◌, get_or, arith}
 use Rattle.std.proofs.lemmas.Bool.{and_from, eq-eqb, eqb-true, lt-leb}
-use Rattle.std.specs.Option.{is_some}
-use Rattle.std.specs.Prelude.{ℤ, if◌then◌else◌, pos}
+use Rattle.std.specs.Option.{is_some, option_map_or}
+use Rattle.std.specs.Prelude.{Bool, ◌||◌, ℤ, if◌then◌else◌, pos}
 use Rattle.asn1_der.specs.Length.{element}
 use Rattle.asn1_der.specs.Tree.{IsWhole, leaf}
 use Rattle.asn1_der.proofs.Spelling.{whole-wrapped}
@@ -30,6 +30,7 @@ use Rattle.krb_messages.specs.declared.messages.kdc_req.KdcReq.{KdcReq}
 use Rattle.krb_messages.specs.declared.messages.kdc_req_body.KdcReqBody.{KdcReqBody}
 use Rattle.krb_messages.specs.Messages.{IsApReq, IsAsReq, IsTgsReq, enc_ticket_part_tree, sole_ap_req, sole_as_req, sole_tgs_req, tgs_req_tree}
 use Rattle.krb_accounts.specs.Account.{AccountRecord}
+use Rattle.krb_accounts.specs.declared.policy.Policy.{Policy}
 use Rattle.decision_tables.specs.Tables.{Table, and_then, ask, done, need, refuse}
 use Rattle.krb_encrypted_data.specs.Keys.{suite_of}
 use Rattle.krb_encrypted_data.specs.Sealing.{encryption_key, is_own_number, sealed_opens}
@@ -204,12 +205,25 @@ tgs_request_written : (client : ClientRecord) (service : List Bytes) (till : Gen
 unfolding tgs_request_bytes
 tgs_request_written client service till nonce shown bytes realm of_service e = (whole_tgs_request client service till nonce shown realm of_service, e)
 
--- the client's suite is the first that is known
-own_first : (suite : CipherSuite) → table.first_known (pos (cipher_number suite) ∷ []) ≡ Some suite
-own_first suite =
+-- The client's suite is the first that is granted: where triple DES is held back, the client's account has no key of it.
+own_first : (without : Bool) (suite : CipherSuite) → table.is_granted without suite ≡ true → table.first_granted without (pos (cipher_number suite) ∷ []) ≡ Some suite
+own_first without suite granted =
     let number : ℤ = pos (cipher_number suite) in
     let own = suite_found (λ s. is_number (cipher_number s) number) suite (is_own_number suite) (λ s is. same_suite s suite (sym (eqb-true (cipher_number suite) (cipher_number s) is))) in
-    ap (λ (o : Option CipherSuite). table.suite_of_first (if is_some o then Some number else None)) own ∙ own
+    let one : option_map_or (table.is_granted without) (table.suite_numbered number) false ≡ true = ap (λ (o : Option CipherSuite). option_map_or (table.is_granted without) o false) own ∙ granted in
+    ap (λ is. table.suite_of_first (if is then Some number else None)) one ∙ own
+
+-- the client's own suite is never held back from it
+never_held_back : (policy : Policy) (account service : AccountRecord) (found : Option AccountRecord) → found ≡ Some account
+    → table.is_granted (table.holds_back_des3 policy found service) account.suite ≡ true
+never_held_back policy account service found e =
+    subst (λ o. table.is_granted (table.holds_back_des3 policy o service) account.suite ≡ true) (sym e) (by policy.limits_des3 (table.is_des3 account.suite) (table.is_des3 service.suite))
+  where
+    by : (limits own other : Bool) → not ((limits && not (own || other)) && own) ≡ true
+    by true true other = refl
+    by true false true = refl
+    by true false false = refl
+    by false own other = refl
 
 -- a realm replies to a TGS request by its table
 replied_to : (call : CallRecord) (rows : PkinitRows) (bytes : Bytes) (reply : Option Bytes) (request : KdcReq) → IsTgsReq bytes request → ((other : KdcReq) → IsAsReq bytes other → ⊥)
@@ -393,6 +407,16 @@ module _ (client : ClientRecord) (means : MeansRecord) (realm : RealmRecord) (ro
           (span : Span) × IsFurtherSpan realm login first span × ((bytes : Bytes)
           × IsTicketReply (further_grant client realm login first span) (tgs_reply_key client.suite session) met.honest.service.account login.realm_words_tgs bytes × (r ≡ Ok bytes))
 
+      -- whether triple DES is held back
+      abbrev without : Bool
+      without = table.without_des3 call (ticket_part old) met.honest.service.account
+
+      client_granted : table.is_granted without client.suite ≡ true
+      unfolding ticket_part
+      client_granted =
+          let own = met.honest.client in
+          subst (λ suite. table.is_granted without suite ≡ true) own.suite (never_held_back realm.settings.policy own.account met.honest.service.account (realm.look client.components) own.found)
+
       abbrev under_key : Span → CipherSuite → ReplyKeyRecord → Table (Result Bytes ℕ)
       under_key span suite under = replied (table.further_grant call (ticket_part old) (principal_name 2 login.service) suite body span) under met.honest.service.account call.words
 
@@ -401,7 +425,7 @@ module _ (client : ClientRecord) (means : MeansRecord) (realm : RealmRecord) (ro
           need (table.reply_key client.suite (ticket_part old).key.0.key_value.0 (table.subkey_in authenticator)) 31 (under_key span suite)
 
       abbrev in_span : Span → Table (Result Bytes ℕ)
-      in_span span = need (table.first_known body.etype.0) 14 (in_suite span)
+      in_span span = need (table.first_granted without body.etype.0) 14 (in_suite span)
 
       abbrev to_service : AccountRecord → Table (Result Bytes ℕ)
       to_service account = further call (ticket_part old) shown (principal_name 2 login.service) account body
@@ -420,7 +444,7 @@ module _ (client : ClientRecord) (means : MeansRecord) (realm : RealmRecord) (ro
           let c = past_need {T = Bytes} {E = ℕ} (realm.look login.service) 7 to_service met.honest.service.account r service_found b in
           let d = past_found {A = Span} {T = Bytes} (IsFurtherSpan realm login first) (lasting realm.settings.lifetime login.realm_tgs (Some (seconds_of first.endtime)) body) in_span r
           (found_lasting realm.settings.lifetime login.realm_tgs (Some (seconds_of first.endtime)) body not_ended) c in
-          let e = past_need {T = Bytes} {E = ℕ} (table.first_known (pos (cipher_number client.suite) ∷ [])) 14 (in_suite d.0) client.suite r (own_first client.suite) d.2 in
+          let e = past_need {T = Bytes} {E = ℕ} (table.first_granted without (pos (cipher_number client.suite) ∷ [])) 14 (in_suite d.0) client.suite r (own_first without client.suite client_granted) d.2 in
           (d.0, d.1, (e.0, e.1, e.2))
 
       abbrev by_account : AccountRecord → Table (Result Bytes ℕ)

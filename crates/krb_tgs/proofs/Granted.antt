@@ -15,10 +15,13 @@ use Rattle.krb_kdc_requests.specs.Call.{CallRecord}
 use Rattle.krb_kdc_requests.specs.Granting.{replied}
 use Rattle.krb_kdc_requests.specs.Requests.{lasting}
 use Rattle.krb_kdc_requests.specs.declared.span.Span.{Span}
-use Rattle.krb_tgs.specs.TgsTable.{first_known, further, further_grant, reply_key, subkey_in}
+use Rattle.krb_tgs.specs.TgsTable.{first_granted, further, further_grant, reply_key, subkey_in, without_des3}
 
 module _ (call : CallRecord) (part : EncTicketPartInner) (authenticated : Authenticated) (service_name : PrincipalName) (service : AccountRecord) (body : KdcReqBody) (span : Span)
     (lasts : (lasting call.settings.lifetime call.moment (Some (seconds_of part.endtime.0.0)) body).gives (Ok span)) where
+  abbrev first : Option CipherSuite
+  first = first_granted (without_des3 call part service) body.etype.0
+
   abbrev pub key : Option ReplyKeyRecord
   key = reply_key authenticated.suite part.key.0.key_value.0 (subkey_in authenticated.authenticator)
 
@@ -32,15 +35,15 @@ module _ (call : CallRecord) (part : EncTicketPartInner) (authenticated : Authen
   answers r = (further call part authenticated service_name service body).gives r
 
   -- no suite of the client's is known
-  pub no_suite : None ≡ first_known body.etype.0 → answers (Err 14)
+  pub no_suite : None ≡ first → answers (Err 14)
   no_suite none = inl (span, lasts, subst (λ o. (need o 14 to_key).gives (Err 14)) none refl)
 
   -- the subkey is of no suite
-  pub no_key : (suite : CipherSuite) → Some suite ≡ first_known body.etype.0 → None ≡ key → answers (Err 31)
+  pub no_key : (suite : CipherSuite) → Some suite ≡ first → None ≡ key → answers (Err 31)
   no_key suite some none =
       inl (span, lasts, subst (λ o. (need o 14 to_key).gives (Err 31)) some (subst (λ k. (need k 31 (to_seal suite)).gives (Err 31)) none refl))
 
-  pub given : (suite : CipherSuite) (under : ReplyKeyRecord) (ticket : GrantRecord) (bytes : List ℕ) → Some suite ≡ first_known body.etype.0 → Some under ≡ key
+  pub given : (suite : CipherSuite) (under : ReplyKeyRecord) (ticket : GrantRecord) (bytes : List ℕ) → Some suite ≡ first → Some under ≡ key
       → ticket ≡ further_grant call part service_name suite body span → IsTicketReply ticket under service call.words bytes → answers (Ok bytes)
   given suite under ticket bytes some keyed same reply =
       let own = subst (λ g. IsTicketReply g under service call.words bytes) same reply in

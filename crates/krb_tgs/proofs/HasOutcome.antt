@@ -43,7 +43,7 @@ use Rattle.krb_ap_requests.specs.ApTable.{ap_fields, authenticated, is_early, is
 use Rattle.krb_encrypted_data.proofs.KeySizes.{suite_sized}
 use Rattle.krb_ap_requests.proofs.Judgements.{has_authenticated, has_fields, has_opened_part, has_times}
 use Rattle.krb_tgs.specs.ByTicket.{IsByTicket}
-use Rattle.krb_tgs.specs.TgsTable.{carried, checksum_in, client_and_times, covered, first_known, further, further_grant, has_account, is_known_checksum, is_of_body, of_carried, of_authenticated, of_ticket, reply_key, authenticated_near, subkey_in, tgs_granted, tgs_table, ticket_granting, to_us}
+use Rattle.krb_tgs.specs.TgsTable.{carried, checksum_in, client_and_times, covered, first_granted, further, further_grant, has_account, is_known_checksum, is_of_body, of_carried, of_authenticated, of_ticket, reply_key, authenticated_near, subkey_in, tgs_granted, tgs_table, ticket_granting, to_us, without_des3}
 use Rattle.krb_tgs.proofs.ByTicket.{IsOfKey, by_authenticator, by_padata, by_ticket}
 use Rattle.krb_tgs.proofs.PresentedTrees.{authenticator_short, part_name_fits, request_fits, subkey_short, ticket_short}
 use Rattle.krb_tgs.proofs.SealedLengths.{opened_fits}
@@ -151,10 +151,10 @@ module _ (call : CallRecord) (request : KdcReq) (is : IsCall call) (n : ℕ) (fe
       let old : Option ℕ = Some (seconds_of part.endtime.0.0) in
       let to_seal : Span → CipherSuite → ReplyKeyRecord → Table (Result (List ℕ) ℕ) = λ span suite under. replied (further_grant call part service_name suite body span) under service call.words in
       let to_key : Span → CipherSuite → Table (Result (List ℕ) ℕ) = λ span suite. need (reply_key authenticated.suite part.key.0.key_value.0 (subkey_in authenticated.authenticator)) 31 (to_seal span suite) in
-      let to_suite : Span → Table (Result (List ℕ) ℕ) = λ span. need (first_known body.etype.0) 14 (to_key span) in
+      let to_suite : Span → Table (Result (List ℕ) ℕ) = λ span. need (first_granted (without_des3 call part service) body.etype.0) 14 (to_key span) in
       has_then (lasting call.settings.lifetime call.moment old body) to_suite (has_lasting call.settings.lifetime call.moment old body is.in_time)
       (λ span given.
-      has_needed (first_known body.etype.0) 14 (to_key span)
+      has_needed (first_granted (without_des3 call part service) body.etype.0) 14 (to_key span)
       (λ suite e.
       has_needed (reply_key authenticated.suite part.key.0.key_value.0 (subkey_in authenticated.authenticator)) 31 (to_seal span suite)
       (λ under f.

@@ -11,10 +11,12 @@ use Rattle.std.specs.Option.{is_some}
 use Rattle.decision_tables.specs.Tables.{Table, and_then, need, refuse}
 use Rattle.krb_ap_requests.specs.declared.presented.Authenticated.{Authenticated}
 use Rattle.krb_kdc_requests.specs.Call.{CallRecord}
-use Rattle.krb_kdc_requests.specs.Requests.{padata_in, service_of}
+use Rattle.asn1_leaves.specs.GeneralizedTime.{seconds_of}
+use Rattle.krb_kdc_requests.specs.Granting.{replied}
+use Rattle.krb_kdc_requests.specs.Requests.{lasting, padata_in, service_of}
 use Rattle.krb_types.specs.TicketGranting.{krbtgt_of}
 use Rattle.krb_tgs.specs.ByTicket.{IsByTicket, IsInvolvedFurther}
-use Rattle.krb_tgs.specs.TgsTable.{carried, covered, further, of_carried, of_authenticated, of_ticket, authenticated_near, tgs_granted, tgs_table, ticket_granting, to_us}
+use Rattle.krb_tgs.specs.TgsTable.{carried, covered, first_granted, further, further_grant, holds_back_des3, of_carried, of_authenticated, of_ticket, authenticated_near, reply_key, subkey_in, tgs_granted, tgs_table, ticket_granting, to_us}
 use Rattle.krb_tgs.proofs.ByTicket.{by_padata, by_ticket}
 
 -- the value that is needed is the same, and what follows gives the same of it
@@ -40,16 +42,27 @@ module _ (call : CallRecord) (other : Look) (request : KdcReq) (agree : (these :
   abbrev beside : CallRecord
   beside = record call { look = other }
 
+  -- what is granted, by the account of the ticket's client
+  abbrev by_client : EncTicketPartInner → Authenticated → PrincipalName → AccountRecord → Option AccountRecord → Table (Result (List ℕ) ℕ)
+  by_client part authenticated name service client =
+      let body = request.req_body.0 in
+      and_then (lasting call.settings.lifetime call.moment (Some (seconds_of part.endtime.0.0)) body) (λ span.
+      need (first_granted (holds_back_des3 call.settings.policy client service) body.etype.0) 14 (λ suite.
+      need (reply_key authenticated.suite part.key.0.key_value.0 (subkey_in authenticated.authenticator)) 31 (λ under.
+      replied (further_grant call part name suite body span) under service call.words)))
+
   same_granted : (ap_req : ApReqInner) (part : EncTicketPartInner) (authenticated : Authenticated) → IsByTicket call request ap_req part
       → (tgs_granted call part authenticated request.req_body.0).gives r → (tgs_granted beside part authenticated request.req_body.0).gives r
   same_granted ap_req part authenticated by =
       let body = request.req_body.0 in
-      let given : PrincipalName → AccountRecord → Table (Result (List ℕ) ℕ) = λ name service. further call part authenticated name service body in
-      let by_name : Look → PrincipalName → Table (Result (List ℕ) ℕ) = λ look name. need (look (components name)) 7 (given name) in
-      let to_service : Look → Table (Result (List ℕ) ℕ) = λ look. need (service_of body) 7 (by_name look) in
-      same_refuse (call.look (components part.cname.0)) (other (components part.cname.0)) (agree (components part.cname.0) (inr (inr (ap_req, part, by, refl)))) 6 (to_service call.look) (to_service other) r
-      (same_need (service_of body) (service_of body) refl 7 (by_name call.look) (by_name other) r
-      (λ name b. same_need (call.look (components name)) (other (components name)) (agree (components name) (inr (inl (name, b, refl)))) 7 (given name) (given name) r (λ service c x. x)))
+      let given : CallRecord → PrincipalName → AccountRecord → Table (Result (List ℕ) ℕ) = λ own name service. further own part authenticated name service body in
+      let by_name : CallRecord → PrincipalName → Table (Result (List ℕ) ℕ) = λ own name. need (own.look (components name)) 7 (given own name) in
+      let to_service : CallRecord → Table (Result (List ℕ) ℕ) = λ own. need (service_of body) 7 (by_name own) in
+      same_refuse (call.look (components part.cname.0)) (other (components part.cname.0)) (agree (components part.cname.0) (inr (inr (ap_req, part, by, refl)))) 6 (to_service call) (to_service beside) r
+      (same_need (service_of body) (service_of body) refl 7 (by_name call) (by_name beside) r
+      (λ name b.
+      same_need (call.look (components name)) (other (components name)) (agree (components name) (inr (inl (name, b, refl)))) 7 (given call name) (given beside name) r
+      (λ service c x. subst (λ client. (by_client part authenticated name service client).gives r) (agree (components part.cname.0) (inr (inr (ap_req, part, by, refl)))) x)))
 
   same_of_carried : (ap_req : ApReqInner) → (carried (padata_in request)).gives (Ok ap_req)
       → (of_carried call request.req_body.0 ap_req).gives r → (of_carried beside request.req_body.0 ap_req).gives r

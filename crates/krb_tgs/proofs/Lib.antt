@@ -5,3 +5,4 @@ pub mod HasOutcome
 pub mod Involved
 mod Granted
 mod Judged
+mod GrantedSuites

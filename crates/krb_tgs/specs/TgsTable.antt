@@ -1,19 +1,21 @@
 -- The outcome of a TGS request, in parts of one table, row by row: the first case that holds counts (RFC 4120, section 3.3.3).
-use Rattle.std.specs.Prelude.{Bool, false, not, List, Option, None, Some, Result, Ok, Err, ℤ}
+use Rattle.std.specs.Prelude.{Bool, true, false, not, ◌&&◌, ◌||◌, List, Option, None, Some, Result, Ok, Err, ℤ}
 use Rattle.std.specs.Bool.{nat_eq}
 use Rattle.std.specs.Cmp.Lexicographic.{pointwise}
 use Rattle.std.specs.List.{find, list_any}
-use Rattle.std.specs.Option.{is_some, option_map}
+use Rattle.std.specs.Option.{is_some, option_map, option_map_or}
 use Rattle.picky_asn1.specs.BitString.{bit_of}
 use Rattle.asn1_leaves.specs.GeneralizedTime.{seconds_of}
 use Rattle.picky_asn1.specs.Numbers.{is_number}
 use Rattle.picky_asn1.specs.Bytes.{Bytes}
 use Rattle.krb_time.specs.Skew.{is_far}
 use Rattle.krb_crypto.specs.declared.suite.CipherSuite.{CipherSuite}
+use Rattle.krb_crypto.specs.declared.suite.CipherSuite.TheVariants.{Des3CbcSha1Kd}
 use Rattle.krb_crypto.specs.declared.suite.ChecksumSuite.{ChecksumSuite}
 use Rattle.krb_crypto.specs.Sealing.{checksum_of}
 use Rattle.krb_crypto.specs.Suites.{checksum_number, checksum_suites, cipher_checksum, cipher_number, cipher_suites}
 use Rattle.krb_accounts.specs.Account.{AccountRecord}
+use Rattle.krb_accounts.specs.declared.policy.Policy.{Policy}
 use Rattle.krb_types.specs.Names.{components, is_same_realm}
 use Rattle.krb_types.specs.declared.data_types.authenticator.AuthenticatorInner.{AuthenticatorInner}
 use Rattle.krb_types.specs.declared.data_types.checksum.Checksum.{Checksum}
@@ -121,18 +123,39 @@ covered suite key authenticator body =
 abbrev pub suite_numbered : ℤ → Option CipherSuite
 suite_numbered number = find (λ suite. is_number (cipher_number suite) number) cipher_suites
 
--- the first encryption type, in the client's order, that is a suite's
-abbrev pub first_number : List ℤ → Option ℤ
-first_number numbers = find (λ number. is_some (suite_numbered number)) numbers
+-- the suite is triple DES
+abbrev pub is_des3 : CipherSuite → Bool
+is_des3 Des3CbcSha1Kd = true
+is_des3 _ = false
+
+-- the account, if there is one, has a key of triple DES
+abbrev pub has_des3_key : Option AccountRecord → Bool
+has_des3_key account = option_map_or (λ own. is_des3 own.suite) account false
+
+-- Session keys of triple DES are held back: the policy limits them, and neither client nor service has a key of triple DES.
+abbrev pub holds_back_des3 : Policy → Option AccountRecord → AccountRecord → Bool
+holds_back_des3 policy client service = policy.limits_des3 && not (has_des3_key client || has_des3_key (Some service))
+
+-- the same for the client of a presented ticket
+abbrev pub without_des3 : CallRecord → EncTicketPartInner → AccountRecord → Bool
+without_des3 call part service = holds_back_des3 call.settings.policy (call.look (components part.cname.0)) service
+
+-- session keys of the suite are granted: of each, unless those of triple DES are held back
+abbrev pub is_granted : Bool → CipherSuite → Bool
+is_granted without suite = not (without && is_des3 suite)
+
+-- the first encryption type, in the client's order, that is that of a granted suite
+abbrev pub first_number : Bool → List ℤ → Option ℤ
+first_number without numbers = find (λ number. option_map_or (is_granted without) (suite_numbered number) false) numbers
 
 -- the suite of the first such encryption type
 abbrev pub suite_of_first : Option ℤ → Option CipherSuite
 suite_of_first None = None
 suite_of_first (Some number) = suite_numbered number
 
--- the first suite that the client's `etype` lists
-abbrev pub first_known : List ℤ → Option CipherSuite
-first_known numbers = suite_of_first (first_number numbers)
+-- the first granted suite that the client's `etype` lists
+abbrev pub first_granted : Bool → List ℤ → Option CipherSuite
+first_granted without numbers = suite_of_first (first_number without numbers)
 
 -- the authenticator's subkey
 abbrev pub subkey_in : AuthenticatorInner → Option EncryptionKey
@@ -170,7 +193,9 @@ further call part authenticated service_name service body =
     and_then (lasting call.settings.lifetime call.moment (Some (seconds_of part.endtime.0.0)) body) (λ span.
     -- `etype` lists a known encryption type; the session key is of the first that is known (RFC 4120, section 3.3.3). Test:
     -- `tgs no known suite`, `tgs first known suite` of `five_suites.txt`.
-    need (first_known body.etype.0) KDC_ERR_ETYPE_NOSUPP (λ suite.
+    -- Where the policy limits triple DES, a session key is of it only if client or service has such a key (RFC 8429, section 7). Test:
+    -- `tgs des3 first, limited`, `tgs des3 alone, limited` of `file_realms.txt`.
+    need (first_granted (without_des3 call part service) body.etype.0) KDC_ERR_ETYPE_NOSUPP (λ suite.
     -- The type and length of the authenticator's subkey are a suite's, if there is one (RFC 3961, section 3). Test: `tgs subkey type`,
     -- `tgs subkey length` of `five_suites.txt`.
     need (reply_key authenticated.suite part.key.0.key_value.0 (subkey_in authenticated.authenticator)) KRB_AP_ERR_BAD_INTEGRITY (λ under.

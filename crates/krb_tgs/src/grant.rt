@@ -1,6 +1,6 @@
 //! Grants a service ticket by the presented ticket.
-ghost use Rattle.std.specs.Prelude.{◌≡◌, IfOk};
-ghost use Rattle.std.specs.Option.{is_some, option_copied, option_map};
+ghost use Rattle.std.specs.Prelude.{◌≡◌, IfOk, false};
+ghost use Rattle.std.specs.Option.{option_copied, option_map, option_map_or};
 ghost use Rattle.krb_types.specs.RandomBytes.{AreEnoughForReply};
 ghost use Rattle.krb_kdc_requests.specs.Call.{call_of};
 ghost use Rattle.krb_kdc_requests.specs.Granting.{IsGranted};
@@ -8,7 +8,7 @@ ghost use Rattle.krb_tickets.specs.Grant.{grant_of};
 ghost use Rattle.krb_tickets.specs.ReplyKeys.{reply_key_of};
 ghost use Rattle.krb_crypto.specs.Keys.{KeyRecord};
 ghost use Rattle.krb_tgs.specs.SessionKeys.{HasSessionKey, under};
-ghost use Rattle.krb_tgs.specs.TgsTable.{first_known, first_number, further, further_grant, reply_key, subkey_in, suite_numbered};
+ghost use Rattle.krb_tgs.specs.TgsTable.{first_granted, first_number, further, further_grant, has_des3_key, is_des3, is_granted, reply_key, subkey_in, suite_numbered, without_des3};
 
 use krb_accounts::Account;
 use krb_ap_requests::Authenticated;
@@ -50,7 +50,8 @@ pub(crate) fn grant(
 {
     let part = opened.part;
     let span = lasting(call.settings, call.moment, Some(part.endtime.0.0), body)?;
-    let Some(suite) = first_known(body.etype.0.as_slice()) else {
+    let without = without_des3(call, part, service);
+    let Some(suite) = first_granted(without, body.etype.0.as_slice()) else {
         return Err(Refusal::Krb(error_codes::KDC_ERR_ETYPE_NOSUPP));
     };
     let Some(subkey) = subkey_of(&opened.authenticated.authenticator) else {
@@ -64,28 +65,63 @@ pub(crate) fn grant(
     Ok(reply)
 }
 
-// The first known suite that the client's `etype` lists.
-fn first_known(numbers: &[IntegerAsn1]) -> Option<CipherSuite>
-    ensures { result ≡ first_known numbers.now }
+// Whether session keys of triple DES are held back from the ticket's client and the service.
+fn without_des3(call: &Call<'_>, part: &EncTicketPartInner, service: &Account) -> bool
+    ensures { result ≡ without_des3 (call_of call.now) part.now service.now }
 {
-    match first_number(numbers) {
+    if !call.settings.policy().limits_des3 {
+        return false;
+    }
+    let client = call.accounts.get(part.cname.0.name_string.0.as_slice());
+    !has_des3_key(client) && !has_des3_key(Some(service))
+}
+
+// Whether the account, if there is one, has a key of triple DES.
+fn has_des3_key(account: Option<&Account>) -> bool
+    ensures { result ≡ has_des3_key (option_copied account.entry) }
+{
+    match account {
+        Some(own) => is_des3(own.suite()),
+        None => false,
+    }
+}
+
+fn is_des3(suite: CipherSuite) -> bool
+    ensures { result ≡ is_des3 suite }
+{
+    match suite {
+        CipherSuite::Des3CbcSha1Kd => true,
+        _ => false,
+    }
+}
+
+// The first granted suite that the client's `etype` lists.
+fn first_granted(without: bool, numbers: &[IntegerAsn1]) -> Option<CipherSuite>
+    ensures { result ≡ first_granted without numbers.now }
+{
+    match first_number(without, numbers) {
         Some(number) => suite_numbered(number),
         None => None,
     }
 }
 
-// The first encryption type, in the client's order, that is a suite's.
-fn first_number(numbers: &[IntegerAsn1]) -> Option<&IntegerAsn1>
-    ensures { option_copied result ≡ first_number numbers.now }
+// The first encryption type, in the client's order, that is that of a granted suite.
+fn first_number(without: bool, numbers: &[IntegerAsn1]) -> Option<&IntegerAsn1>
+    ensures { option_copied result ≡ first_number without numbers.now }
 {
-    numbers.iter().find(|number| is_suite(number))
+    numbers
+        .iter()
+        .find(|number| is_granted_number(without, number))
 }
 
-// Whether the encryption type is a suite's.
-fn is_suite(number: &IntegerAsn1) -> bool
-    ensures { result ≡ is_some (suite_numbered number.now) }
+// Whether the encryption type is that of a granted suite.
+fn is_granted_number(without: bool, number: &IntegerAsn1) -> bool
+    ensures { result ≡ option_map_or (is_granted without) (suite_numbered number.now) false }
 {
-    suite_numbered(number).is_some()
+    match suite_numbered(number) {
+        Some(suite) => !without || !is_des3(suite),
+        None => false,
+    }
 }
 
 // The suite of an encryption type.

@@ -1,5 +1,12 @@
 //! Laws of every TGS request.
-ghost use Rattle.std.specs.Prelude.{◌≡◌, List, [], ◌∷◌, IsSome};
+ghost use Rattle.std.specs.Prelude.{◌≡◌, ◌≢◌, ℤ, false, true, List, [], ◌∷◌, Option, Some, IsSome};
+ghost use Rattle.std.specs.List.{find};
+ghost use Rattle.std.specs.Option.{is_some};
+ghost use Rattle.krb_accounts.specs.Account.{AccountRecord};
+ghost use Rattle.krb_accounts.specs.declared.policy.Policy.{Policy};
+ghost use Rattle.krb_accounts.specs.declared.policy.TheConstants.{NO_POLICY};
+ghost use Rattle.krb_crypto.specs.declared.suite.CipherSuite.TheVariants.{Des3CbcSha1Kd};
+ghost use Rattle.krb_tgs.specs.TgsTable.{first_granted, has_des3_key, holds_back_des3, suite_numbered, suite_of_first};
 ghost use Rattle.krb_kdc_requests.specs.Requests.{body_of};
 ghost use Rattle.krb_messages.specs.Bodies.{body_bytes};
 ghost use Rattle.krb_messages.specs.Messages.{IsTgsReq};
@@ -15,4 +22,19 @@ pub fn body_is_part()
         → IsPart bytes (0 ∷ 3 ∷ 0 ∷ []) (body_bytes (body_of request)) }
     ensures one { (bytes part : Bytes) (request : KdcReq) → IsTgsReq bytes request → IsSome request.padata.0
         → IsPart bytes (0 ∷ 3 ∷ 0 ∷ []) part → part ≡ body_bytes (body_of request) }
+{}
+
+/// Where a realm sets no policy, the session key of a service ticket is of the first known encryption type that the client lists, whatever
+/// keys the accounts have. It does nothing when it runs: its contract is the law.
+pub fn as_before()
+    ensures { (client : Option AccountRecord) (service : AccountRecord) (numbers : List ℤ)
+        → first_granted (holds_back_des3 NO_POLICY client service) numbers ≡ suite_of_first (find (λ number. is_some (suite_numbered number)) numbers) }
+{}
+
+/// Where the policy limits triple DES, and neither the client's account nor the service's has a key of triple DES, no session key is of it,
+/// whatever the client lists. It does nothing when it runs: its contract is the law.
+pub fn no_des3()
+    ensures { (policy : Policy) (client : Option AccountRecord) (service : AccountRecord) (numbers : List ℤ)
+        → policy.limits_des3 ≡ true → has_des3_key client ≡ false → has_des3_key (Some service) ≡ false
+        → first_granted (holds_back_des3 policy client service) numbers ≢ Some Des3CbcSha1Kd }
 {}

@@ -17,6 +17,7 @@ from cryptography.hazmat.primitives.ciphers import Cipher, algorithms, modes
 
 sys.dont_write_bytecode = True
 import databases
+from listings import der, elements, etypes_of, listing
 
 HERE = os.path.dirname(os.path.abspath(__file__))
 CRATES = os.path.join(HERE, "..", "..")
@@ -78,8 +79,8 @@ def account(suite, key, salt=None, kvno=1):
     return bytes([1, suite]) + kvno.to_bytes(4, "little") + bytes([salt is not None]) + key + (salt or b"")
 
 
-def realm_record(name, skew, lifetime):
-    return b"\1" + skew.to_bytes(4, "little") + lifetime.to_bytes(4, "little") + bytes(8) + name
+def realm_record(name, skew, lifetime, policy=0):
+    return b"\1" + skew.to_bytes(4, "little") + lifetime.to_bytes(4, "little") + bytes(4) + policy.to_bytes(4, "little") + name
 
 
 def key_of(*components):
@@ -97,17 +98,6 @@ ACCOUNTS = [
 
 
 # ---- Entries of the log -----------------------------------------------------------------------------------------------------
-
-def elements(octets):
-    """The DER elements, in their order: the first octet of each, and its content."""
-    found = []
-    while octets:
-        begin = 2 + (octets[1] & 127 if octets[1] > 127 else 0)
-        end = begin + int.from_bytes(octets[2:begin] or octets[1:2], "big")
-        found.append((octets[0], octets[begin:end]))
-        octets = octets[end:]
-    return found
-
 
 def fields(octets):
     """The fields of a SEQUENCE by the numbers of their tags."""
@@ -144,11 +134,22 @@ ERRORS = {
 }
 
 
+def means(request):
+    """How the client of an AS request authenticates itself: by PA-PK-AS-REQ (16), else by PA-ENC-TIMESTAMP (2)."""
+    padata = fields(content(request)).get(3, b"\x30\0")
+    types = [number(fields(der(0x30, one))[1]) for _, one in elements(content(padata))]
+    return "pkinit" if 16 in types else "password" if 2 in types else "none"
+
+
 def entry(request, reply, is_request=True):
     if reply == "Unreadable":
-        return "- - - no-request"
+        return "- - - no-request by=-"
     if not is_request:
-        return "- - - no-accounts"
+        return "- - - no-accounts by=-"
+    return f"{names_and_answer(request, reply)} by={means(request) if request[0] == 0x6A else 'ticket'}"
+
+
+def names_and_answer(request, reply):
     exchange = {0x6A: "AS", 0x6C: "TGS"}[request[0]]
     body = fields(fields(content(request))[4])
     client = name(body[1], body[2]) if 1 in body else "-"
@@ -183,11 +184,6 @@ def row(label, request, reply, is_request=True):
     return f"ask | {label} | {request} | {reply} | {entry(octets, told, is_request)}\n"
 
 
-def der(first, content):
-    size = len(content)
-    return bytes([first]) + (bytes([size]) if size < 128 else bytes([0x81, size])) + content
-
-
 def error_to(request, code):
     """The KRB-ERROR of this code to a TGS request for a service (RFC 4120, section 5.9.1)."""
     body = fields(fields(content(request))[4])
@@ -205,6 +201,36 @@ def without_krbtgt(rows):
         yield row(label, request.hex(), error_to(request, 7).hex())
 
 
+KNOWN = (16, 17, 18)  # the suites of this realm's keys; 19 and 20 are known too
+
+
+def first_known(request):
+    return next((etype for etype in etypes_of(request) if etype in (*KNOWN, 19, 20)), None)
+
+
+def limited():
+    """TGS requests to the realm whose policy limits triple DES, of clients that a recorded reply names: its reply where an account has a key of
+    triple DES, error 14 where none has one and the request lists nothing else, and else that of the same request without triple DES."""
+    granted = []
+    with open(os.path.join(CRATES, "replay_realm", "data", "kdc_exchanges.txt"), encoding="ascii") as rows:
+        for line in rows:
+            label, request, reply = (line.rstrip("\n").split(" | ") + ["", "", ""])[:3]
+            if label.startswith("tgs") and reply.startswith("6d"):
+                octets = bytes.fromhex(request)
+                names = names_and_answer(octets, bytes.fromhex(reply)).split()
+                granted.append((octets, reply, first_known(octets), names[1], names[2], len([e for e in etypes_of(octets) if e in (*KNOWN, 19, 20)])))
+    def find(is_wanted):
+        return next(it for it in granted if is_wanted(*it[2:]))
+    request, reply, *_ = find(lambda first, client, service, count: first == 16 and count == 1 and client != "d@R" and service != "d@R")
+    yield row("tgs des3 alone, limited", request.hex(), error_to(request, 14).hex())
+    request, reply, *_ = find(lambda first, client, service, count: first == 18 and client != "d@R" and service != "d@R")
+    yield row("tgs des3 first, limited", listing(request, 16).hex(), reply)
+    request, reply, *_ = find(lambda first, client, service, count: first == 16 and client == "d@R" and service != "d@R")
+    yield row("tgs des3 of the client, limited", request.hex(), reply)
+    request, reply, *_ = find(lambda first, client, service, count: first == 16 and client != "d@R" and service == "d@R")
+    yield row("tgs des3 of the service, limited", request.hex(), reply)
+
+
 def write(path, octets):
     with open(os.path.join(HERE, path), "wb") as file:
         file.write(octets)
@@ -216,6 +242,9 @@ def main():
     write("other_version.cdb", databases.database(ACCOUNTS + [(b"\xff", b"\2" + REALM[0][1][1:])]))
     write("no_realm.cdb", databases.database(ACCOUNTS))
     write("no_krbtgt.cdb", databases.database(ACCOUNTS[:-1] + REALM))
+    # The policy limits triple DES, and a policy of another number is none.
+    for path, policy in ("limited.cdb", 1), ("other_policy.cdb", 2):
+        write(path, databases.database(ACCOUNTS + [(b"\xff", realm_record(b"R", 300, 36000, policy))]))
     damaged = [(key, account(18, bytes([1]) * 32, kvno=0) if key == key_of(b"h") else record) for key, record in ACCOUNTS]
     write("damaged_h.cdb", databases.database(damaged + REALM))
     rows = list(recorded())
@@ -226,11 +255,12 @@ def main():
     of_h = next(it for it in rows if asks_h(*it[1:]))
     with open(os.path.join(HERE, "file_realms.txt"), "w", encoding="ascii") as out:
         out.write(HEAD + "open four_accounts.cdb\n" + "".join(row(*it) for it in rows))
-        for path in "absent.cdb", "other_version.cdb", "no_realm.cdb":
+        for path in "absent.cdb", "other_version.cdb", "other_policy.cdb", "no_realm.cdb":
             out.write(f"open {path}\n" + row(*granted[:2], "Accounts") + row(*begun[:2], "Accounts", False) + row(*other))
         out.write("open damaged_h.cdb\n" + row(*of_h[:2], "Accounts") + row(*granted))
         out.write("open four_accounts.cdb\n" + row(*of_h))
         out.write("open no_krbtgt.cdb\n" + "".join(without_krbtgt(rows)))
+        out.write("open limited.cdb\n" + "".join(limited()))
 
 
 def asks_h(request, reply):

@@ -1,0 +1,12 @@
+//! What the owner of a realm sets beyond clock skew and lifetime.
+
+/// What a realm grants otherwise than by [`Settings::new`](crate::Settings::new) alone. Each part is off where nobody sets it.
+#[derive(Clone, Copy, Debug, PartialEq, Eq)]
+pub struct Policy {
+    /// Session keys of triple DES are granted only where the account of the client or of the service has a key of triple DES (RFC 8429,
+    /// section 7).
+    pub limits_des3: bool,
+}
+
+/// The policy of settings in which nobody sets one.
+pub const NO_POLICY: Policy = Policy { limits_des3: false };
