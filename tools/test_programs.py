@@ -53,7 +53,9 @@ class Copy(unittest.TestCase):
     def setUp(self):
         folder = tempfile.TemporaryDirectory(prefix="sukvort programs ")
         self.addCleanup(folder.cleanup)
-        self.folder, self.top = folder.name, f"{folder.name}/the clone"
+        plain = tempfile.TemporaryDirectory()
+        self.addCleanup(plain.cleanup)
+        self.folder, self.plain, self.top = folder.name, plain.name, f"{folder.name}/the clone"
         os.mkdir(self.top)
         for name in os.listdir(TOP):
             if name in ("tools", "examples", "docs"):
@@ -211,7 +213,7 @@ class Install(Copy):
         self.make("install", "PREFIX=/opt/krb", f"DESTDIR={place}")
         root = f"{place}/opt/krb"
         listed = text_of(f"{root}/share/doc/sukvort/installed").splitlines()
-        self.assertEqual(sorted(it for it in listed if not it.endswith("/")), files_below(root))
+        self.assertEqual(sorted(it for it in listed if not it.endswith("/")), files_below(place))
         for name in "bin/krb_login", "bin/krb_keytab", "bin/krb_connect", "sbin/krb_accounts", "sbin/krb_kdcd", "sbin/krb_listen":
             self.assertEqual(stat.S_IMODE(os.stat(f"{root}/{name}").st_mode), 0o755)
         for name in "sbin/krb_realm", "sbin/krb_realm_check", "share/man/man8/krb_kdcd.8", "share/man/man1/krb_login.1":
@@ -223,7 +225,7 @@ class Install(Copy):
             for path in re.findall(r"/opt/krb/[\w/]+/(?:krb_\w+|RUNNING\.md)", text):
                 self.assertTrue(os.path.isfile(f"{place}{path}"), path)
         self.make("uninstall", "PREFIX=/opt/krb", f"DESTDIR={place}")
-        self.assertEqual(os.listdir(root), [])
+        self.assertEqual(os.listdir(place), [])
         self.make("uninstall", "PREFIX=/opt/krb", f"DESTDIR={place}", status=2)
 
     def test_what_others_put_there_stays(self):
@@ -241,13 +243,14 @@ class Install(Copy):
         place = f"{self.folder}/packed"
         self.make("install", f"DESTDIR={place}")
         with open(f"{place}/usr/local/share/doc/sukvort/installed", "a", encoding="utf-8") as it:
-            it.write("bin/krb_older\n")
+            it.write("usr/local/bin/krb_older\n")
         write(f"{place}/usr/local/bin/krb_older", "")
         self.make("install", f"DESTDIR={place}")
         self.assertNotIn("krb_older", os.listdir(f"{place}/usr/local/bin"))
+        self.assertNotIn("krb_older", text_of(f"{place}/usr/local/share/doc/sukvort/installed"))
 
     def test_installed_programs_run_and_ask(self):
-        prefix = f"{self.folder}/the prefix"
+        prefix = f"{self.plain}/krb"
         self.make("install", f"PREFIX={prefix}")
         wrote, _ = self.run_in(f"{prefix}/sbin/krb_accounts", "list", "accounts")
         self.assertEqual(wrote[0], "arguments: list accounts")
@@ -256,10 +259,20 @@ class Install(Copy):
         shown, _ = Asking.at_terminal(self, [f"{prefix}/bin/krb_login", "alice@R"], [PASSWORD], input_=os.open(os.devnull, os.O_RDONLY))
         self.assertTrue(shown.startswith("Password for alice@R: \narguments: -p /dev/fd/3 alice@R\n"), shown)
 
-    def test_a_relative_prefix(self):
+    def test_other_prefixes(self):
         self.build_stubs()
-        _, said = self.make("install", "PREFIX=here", status=2)
-        self.assertIn("install: expected PREFIX", said[0])
+        for prefix in "here", "/a b", "/it's", "":
+            _, said = self.make("install", f"PREFIX={prefix}", f"DESTDIR={self.folder}/packed", status=2)
+            self.assertIn("install: expected PREFIX", said[0])
+        self.make("install", "PREFIX=/", f"DESTDIR={self.folder}/packed")
+        self.assertIn("=/sbin/krb_listen ", text_of(f"{self.folder}/packed/lib/systemd/system/krb_listen.service"))
+
+    def test_a_mask_of_modes(self):
+        place = f"{self.folder}/packed"
+        self.build_stubs()
+        self.run_in("sh", "-c", f"umask 077 && make -s install DESTDIR='{place}'")
+        modes = {stat.S_IMODE(os.stat(at).st_mode) for at, _, _ in os.walk(f"{place}/usr")}
+        self.assertEqual(modes, {0o755})
 
     def test_a_second_build_proves_nothing(self):
         self.make("build")
