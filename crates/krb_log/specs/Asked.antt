@@ -25,8 +25,8 @@ abbrev pub named : KdcReqBody → Option PrincipalName → Option (List ℕ)
 named body None = None
 named body (Some name) = Some (shown_name (components name) body.realm.0)
 
--- How the client of an AS request authenticates itself: by its certificate where there is padata PA-PK-AS-REQ (RFC 4556, section 3.2.2), else
--- by its key where there is PA-ENC-TIMESTAMP (RFC 4120, section 5.2.7.2). Test: `log means`.
+-- In the log the client of an AS request authenticates itself by its certificate where there is padata PA-PK-AS-REQ, else by its key where there is
+-- PA-ENC-TIMESTAMP (RFC 4120, section 5.2.7.2). Test: `as PA-PK-AS-REQ alone`, `as honest`, `as no padata` of `file_realms.txt`.
 abbrev pub means_of : List PaData → Means
 means_of padata =
     if is_some (first_of PA_PK_AS_REQ padata) then Pkinit
