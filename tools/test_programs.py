@@ -15,8 +15,8 @@ STARTS = ("krb_accounts", "krb_keytab", "krb_login", "krb_realm")
 STUB = """#!/bin/sh
 echo "arguments: $*"
 if [ "$1" = -p ]; then IFS= read -r line <"$2"; else line=; fi
-echo "line: $line"
-echo "input: $(cat)"
+printf 'line: %s\n' "$line"
+printf 'input: %s\n' "$(cat)"
 echo "seen: $(cat /proc/$$/cmdline /proc/$PPID/cmdline | tr '\\0' ' ') $(env)"
 exit ${STATUS:-0}
 """
@@ -27,7 +27,7 @@ crate=$(basename "$PWD")
 [ "$crate" != "$REFUSED" ] || { echo "error: a goal is open"; exit 1; }
 mkdir -p out && cp "$STUB" "out/$crate" && chmod 755 "out/$crate"
 """
-PASSWORD = "correct horse battery staple"
+PASSWORD = " correct \\horse 'battery\" $staple* \u00e9 "
 IN_WORDS = re.compile(r"[A-Za-z0-9_]+")
 
 
