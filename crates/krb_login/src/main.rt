@@ -3,11 +3,11 @@
 //! 7.2.2). A bridge sends each request to the KDC, over a new connection where the KDC closes it after each reply. `krb_login --help` prints
 //! the options.
 //!
-//! By password or keytab it first sends an AS request without padata, which lists the suites. The KDC answers by error 25 with a suite and a
-//! salt, or by a reply. After the error it sends the request with an encrypted timestamp. By certificate its first AS request has the padata
-//! PA-PK-AS-REQ (RFC 4556). Then it sends a TGS request for each service. The cache is written at the end, under a name of its own, with mode
-//! 0600, and takes its place once it is on disk. If a run fails, the old cache stays. What is there is replaced only if it is a cache or
-//! empty, and none of the files that the login reads.
+//! By password or keytab it first sends an AS request without padata, which lists the suites. The KDC answers by error 25 with a suite and
+//! a salt, or by a reply. After the error it sends the request with an encrypted timestamp. By certificate its first AS request has the
+//! padata PA-PK-AS-REQ (RFC 4556). Then it sends a TGS request for each service. The cache is written at the end, under a name of its own,
+//! with mode 0600, and takes its place once it is on disk. If a run fails, the old cache stays. What is there is replaced only if it is a
+//! cache or empty, and none of the files that the login reads.
 //!
 //! The status is 0 if the cache was written. It is 1 if the KDC refused, if its answer was refused, or if a file has no key, password or
 //! certificate of the user. It is 2 if the arguments are none, a file or a stream can't be read or written, or memory ran out. One line on
