@@ -8,8 +8,8 @@
 //! stands. What is there is replaced only if it is of its own kind or empty, and none of the files that the command reads.
 //!
 //! The status is 0 if the command was done. It is 1 if a text, a name, a key or a password was refused, if a file is there that stays, or
-//! if `check` found a difference. It is 2 if the arguments are none, another run writes, a file can't be read or written, or memory ran out. One line on
-//! standard error says what was expected.
+//! if `check` found a difference. It is 2 if the arguments are none, another run writes, a file can't be read or written, or memory ran
+//! out. One line on standard error says what was expected.
 //!
 //! It is safe, returns, and meets what its calls require. No contract says what files and standard output hold.
 #![tactic(auto)]

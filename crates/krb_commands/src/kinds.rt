@@ -54,8 +54,8 @@ impl FileKind {
         }
     }
 
-    /// Whether a file with these first octets is of this kind, as far as they show it. A command puts a new file only in the place of such a
-    /// one, so no file is of a kind that no command writes.
+    /// Whether a file with these first octets is of this kind, as far as they show it. A command puts a new file only in the place of such
+    /// a one, so no file is of a kind that no command writes.
     pub fn has_front(self, front: &[u8]) -> bool
         ensures { result ≡ is_of_kind self front.now }
     {

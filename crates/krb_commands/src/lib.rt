@@ -8,9 +8,11 @@
 //! that the command reads. [`octets_of`] reads a file up to the limit of its kind. [`Printable`] and [`PrintableName`] show what comes from
 //! files and peers.
 //!
-//! Each call is safe and returns. `limit` and `has_front` of `FileKind` are `limit_of` and `is_of_kind`. `given_of` takes arguments apart, or refuses them in a text, both as `parts_of` says. `Given` has the
-//! words and values of those parts. `principal_in` reads a name as `krb_types` does, and refuses only what isn't one. A `Stop` has the
-//! text of `stop_text` and the status of `status_of`. No contract says what files, the program's arguments and standard output hold.
+//! Each call is safe and returns. `limit` and `has_front` of `FileKind` are `limit_of` and `is_of_kind`. `Printable` and `PrintableName`
+//! print `printable_text` and `printable_name`. `given_of` takes arguments apart, or refuses them in a text, both as `parts_of` says.
+//! `Given` has the words and values of those parts. `principal_in` reads a name as `krb_types` does, and refuses only what isn't one. A
+//! `Stop` has the text of `stop_text` and the status of `status_of`. No contract says what files, the program's arguments and standard
+//! output hold.
 #![tactic(auto)]
 
 mod arguments;

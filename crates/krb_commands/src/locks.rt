@@ -4,7 +4,7 @@ use crate::places::unwritten;
 use crate::reading::other_than_file;
 use crate::stop::{Stop, failed, refused};
 use std::alloc::{AllocError, Global};
-use std::fs::{self, File, Metadata, TryLockError};
+use std::fs::{self, File, Metadata, OpenOptions, TryLockError};
 use std::io::{self, ErrorKind, Read};
 use std::os::unix::fs::MetadataExt;
 use std::thread;
@@ -113,11 +113,19 @@ fn is_file_at(rt: &HostRuntime, path: &str) -> Result<bool, Stop> {
 
 // The file at a path with its lock, if no other run has that.
 fn locked_file(rt: &HostRuntime, path: &str) -> io::Result<Option<File>> {
-    let file = fs::open(rt, path)?;
+    let file = opened(rt, path)?;
     match file.try_lock() {
         Ok(()) => Ok(Some(file)),
         Err(TryLockError::WouldBlock) => Ok(None),
         Err(TryLockError::Error(fault)) => Err(fault),
+    }
+}
+
+// The file at a path, open for writing where it may be: a lock on a file of another machine (NFS) takes that. Nothing is written to it.
+fn opened(rt: &HostRuntime, path: &str) -> io::Result<File> {
+    match OpenOptions::new().read(true).write(true).open(rt, path) {
+        Ok(file) => Ok(file),
+        Err(_) => fs::open(rt, path),
     }
 }
 

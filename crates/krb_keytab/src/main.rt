@@ -28,8 +28,8 @@ const USAGE: &str = "usage:
   krb_keytab copy FROM TO [--kvno N] [--etype ETYPE] [PRINCIPAL ..]        writes the entries that fit to TO, which isn't there yet
   krb_keytab --help, krb_keytab --version
 PRINCIPAL is as list prints it, as in host/server.example.com@EXAMPLE.COM. Without its realm it is that name in each realm. With none each
-principal's entries are copied. ETYPE is a name, as aes256-cts-hmac-sha1-96, or a number. In a name an octet that isn't printable is shown as
-\\x and two hexadecimal digits. Where list says that MIT's library reads no further, stock services see neither that entry nor those behind it.";
+principal's entries are copied. ETYPE is a name, as aes256-cts-hmac-sha1-96, or a number. In a name list shows an octet that isn't printable
+as \\x and two hexadecimal digits. Where it says that MIT's library reads no further, stock services see neither that entry nor those behind.";
 
 fn main(rt: HostRuntime) -> ExitCode {
     let stop = match run(&rt) {
