@@ -1,5 +1,5 @@
 -- The suite of a hint is among those that the client listed, and so it isn't weaker than the weakest of them.
-use Rattle.std.proofs.Common.{◌≡◌, ◌==◌, ◌≤◌, ℤ, not, List, [], ◌∷◌, Some, Ok, Err, Contains, inl, inr, ap, arith, subst, sym}
+use Rattle.std.proofs.Common.{◌≡◌, ◌==◌, ◌≤◌, ℤ, not, List, [], ◌∷◌, Some, Ok, Contains, inl, inr, ap, arith, subst, sym}
 use Rattle.std.specs.Option.{option_map}
 use Rattle.std.proofs.lemmas.List.Elements.{Contains-append_cases, Contains-push_cases}
 use Rattle.decision_tables.specs.Tables.{Table, done, need, refuse}
@@ -37,18 +37,18 @@ unfolding suite_among
 among_inside suites number suite e = found_inside (λ s. is_number (cipher_number s) number) suites suite e
 
 -- a hint by an entry has the suite by which it was made
-of_entry : (suites : List CipherSuite) (suite : CipherSuite) (entry : EtypeInfo2Entry) (hint : KeyHint) → Contains suites suite → (done (Ok (hint_by suite entry))).gives (Ok hint) → Contains suites hint.suite
+of_entry : (suites : List CipherSuite) (suite : CipherSuite) (entry : EtypeInfo2Entry) (hint : KeyHint) → Contains suites suite → (done {T = Hinted} (Ok (hint_by suite entry))).gives (Ok hint) → Contains suites hint.suite
 of_entry suites suite entry hint inside given =
     let same : hint ≡ hint_by suite entry = cc (given) in subst (λ (own : CipherSuite). Contains suites own) (sym (ap (λ h. h.suite) same)) inside
 
 of_entries : (suites : List CipherSuite) (entries : List EtypeInfo2Entry) (hint : KeyHint) → (hint_of_entries suites entries).gives (Ok hint) → Contains suites hint.suite
 of_entries suites entries hint given =
-    let made : CipherSuite → EtypeInfo2Entry → Table Hinted = λ suite entry. refuse (not (has_own_parameters suite entry)) OtherParameters (done (Ok (hint_by suite entry))) in
+    let made : CipherSuite → EtypeInfo2Entry → Table Hinted = λ suite entry. refuse (not (has_own_parameters suite entry)) OtherParameters (done {T = Hinted} (Ok (hint_by suite entry))) in
     let by : EtypeInfo2Entry → Table Hinted = λ entry. need (suite_among suites entry.etype.0) NoSuite (λ suite. made suite entry) in
     let entry = was_needed (first_entry suites entries) NoSuite by hint given in
     let suite = was_needed (suite_among suites entry.0.etype.0) NoSuite (λ own. made own entry.0) hint entry.2 in
     of_entry suites suite.0 entry.0 hint (among_inside suites entry.0.etype.0 suite.0 suite.1)
-    (not_refused (not (has_own_parameters suite.0 entry.0)) OtherParameters (done (Ok (hint_by suite.0 entry.0))) hint suite.2)
+    (not_refused (not (has_own_parameters suite.0 entry.0)) OtherParameters (done {T = Hinted} (Ok (hint_by suite.0 entry.0))) hint suite.2)
 
 of_info : (suites : List CipherSuite) (info : Bytes) (hint : KeyHint) → (hint_of_info suites info).gives (Ok hint) → Contains suites hint.suite
 unfolding hint_of_info

@@ -1,6 +1,6 @@
 -- Requests that list several suites, of which the KDC chooses (RFC 4120, sections 3.1.3, 3.3.3, 5.4.1): for a first ticket, with the padata
 -- by which the client authenticates itself, and for a service ticket.
-use Rattle.std.specs.Prelude.{◌≡◌, ◌⊎◌, ℕ, false, true, List}
+use Rattle.std.specs.Prelude.{◌≡◌, ◌⊎◌, ℕ, false, List}
 use Rattle.std.proofs.Common.{ap, sym, ◌∙◌}
 use Rattle.picky_asn1.specs.Bytes.{Bytes}
 use Rattle.asn1_leaves.specs.declared.date.GeneralizedTime.{GeneralizedTime}

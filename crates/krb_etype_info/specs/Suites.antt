@@ -1,5 +1,5 @@
 -- The suites that a client takes, and how strong they are.
-use Rattle.std.specs.Prelude.{◌≡◌, ◌==◌, ◌≤◌, ℕ, Bool, true, false, min, List, [], ◌∷◌, refl}
+use Rattle.std.specs.Prelude.{◌≡◌, ◌==◌, ℕ, Bool, false, min, List, [], ◌∷◌, refl}
 use Rattle.std.specs.List.{list_any}
 use Rattle.krb_crypto.specs.Suites.{cipher_number}
 use Rattle.krb_crypto.specs.declared.suite.CipherSuite.{CipherSuite}
