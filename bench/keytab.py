@@ -12,14 +12,19 @@ def counted(octets):
     return struct.pack(">H", len(octets)) + octets
 
 
+def octets_of(realm, components, key, etype=18, kvno=1):
+    """The octets of an entry (MIT's file keytab format, version 0x0502)."""
+    body = struct.pack(">H", len(components)) + counted(realm) + b"".join(map(counted, components))
+    body += struct.pack(">IIBH", 1, TIME, kvno, etype) + counted(key) + struct.pack(">I", kvno)
+    return struct.pack(">i", len(body)) + body
+
+
 def entry(number):
-    """The octets of an entry (MIT's file keytab format, version 0x0502), and the row that lists it."""
+    """The octets of an entry, and the row that lists it."""
     etype, size, suite = SUITES[number % len(SUITES)]
     components, kvno = [b"HTTP", b"host%d.example.com" % number], 1 + number % 7
-    body = struct.pack(">H", len(components)) + counted(REALM) + b"".join(map(counted, components))
-    body += struct.pack(">IIBH", 1, TIME, kvno, etype) + counted(os.urandom(size)) + struct.pack(">I", kvno)
     name = b"/".join(components) + b"@" + REALM
-    return struct.pack(">i", len(body)) + body, f"{kvno:>4} {TIME_TEXT} {name.decode()} ({suite})"
+    return octets_of(REALM, components, os.urandom(size), etype, kvno), f"{kvno:>4} {TIME_TEXT} {name.decode()} ({suite})"
 
 
 def spent(words, status):
@@ -38,8 +43,46 @@ def measured(words, status, label):
     return figure
 
 
+def stops():
+    """Entries at which MIT's library may stop: their octets, by a title."""
+    name = lambda realm=b"R", components=(b"x",), key=b"k" * 32: (realm, list(components), key)
+    return {
+        "plain": name(),
+        "no component": name(components=()),
+        "an empty realm": name(realm=b""),
+        "an empty component": name(components=(b"x", b"")),
+        "an empty key": name(key=b""),
+        "a realm of 32767": name(realm=b"R" * 32767),
+        "a realm of 32768": name(realm=b"R" * 32768),
+        "a component of 32767": name(components=(b"x" * 32767,)),
+        "a component of 32768": name(components=(b"x" * 32768,)),
+        "a key of 32767": name(key=b"k" * 32767),
+        "a key of 32768": name(key=b"k" * 32768),
+        "32767 components": name(components=[b"x"] * 32767),
+        "32768 components": name(components=[b"x"] * 32768),
+    }
+
+
+def marks(folder):
+    """Whether krb_keytab list marks the entries at which MIT's klist stops, and no other."""
+    path, wrong = os.path.join(folder, "stops.keytab"), []
+    for title, row in stops().items():
+        with open(path, "wb") as keytab:
+            keytab.write(b"\5\2" + b"".join(octets_of(*one) for one in (row, (b"R", [b"behind"], b"k" * 32))))
+        stock = subprocess.run(["klist", "-k", path], check=True, capture_output=True).stdout
+        lines = subprocess.run([KEYTAB, "list", path], check=True, capture_output=True).stdout.splitlines()
+        is_marked = [b": MIT's library reads no further: " in line for line in lines]
+        if is_marked != [b"behind@R" not in stock, False]:
+            wrong.append(title)
+    print(f"marks as klist stops: {len(stops()) - len(wrong)} of {len(stops())}", *wrong)
+    return not wrong
+
+
 def main(count):
+    is_right = True
     with tempfile.TemporaryDirectory() as folder:
+        if shutil.which("klist"):
+            is_right = marks(folder)
         path, none = os.path.join(folder, "many.keytab"), os.path.join(folder, "none.keytab")
         entries = [entry(number) for number in range(count)]
         with open(path, "wb") as keytab:
@@ -54,7 +97,7 @@ def main(count):
         if shutil.which("klist"):
             measured(["klist", "-k", "-t", "-e", path], 0, "klist -k -t -e")
     print(f"reading: {reading - start:.1f} milliseconds more than a start, and {LIMIT} are allowed")
-    return 0 if reading - start < LIMIT else 1
+    return 0 if is_right and reading - start < LIMIT else 1
 
 
 if __name__ == "__main__":

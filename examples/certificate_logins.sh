@@ -121,7 +121,7 @@ gss() {
 # What is refused leaves the cache as it was.
 is_kept() {
     cp "$work/cache" "$work/cache.before"
-    ! by alice.pem alice.key anchor.pem user@EXAMPLE.COM && cmp "$work/cache" "$work/cache.before" && [ ! -e "$work/cache.new" ]
+    ! by alice.pem alice.key anchor.pem user@EXAMPLE.COM && cmp "$work/cache" "$work/cache.before" && [ -z "$(find "$work" -maxdepth 1 -name '.cache.*.new')" ]
 }
 
 # uses NAME: what stock programs make of the cache of a login with a ticket for the service.

@@ -77,7 +77,7 @@ gss() {
 # What is refused leaves the cache as it was.
 is_kept() {
     cp "$work/cache" "$work/cache.before"
-    ! login -p "$work/wrong" user@EXAMPLE.COM && cmp "$work/cache" "$work/cache.before" && [ ! -e "$work/cache.new" ]
+    ! login -p "$work/wrong" user@EXAMPLE.COM && cmp "$work/cache" "$work/cache.before" && [ -z "$(find "$work" -maxdepth 1 -name '.cache.*.new')" ]
 }
 
 expired() {

@@ -15,6 +15,7 @@ mod server;
 mod setup;
 
 use byte_streams::Watched;
+use krb_commands::printable_of;
 use std::io::BufReader;
 use std::process::ExitCode;
 
@@ -24,7 +25,10 @@ fn main(rt: HostRuntime) -> ExitCode {
         Err(fault) => fault,
     };
     // Where standard error takes nothing, the status still tells.
-    let _ = eprintln!(rt; "example_acceptor: {fault}");
+    let _ = match printable_of(rt.alloc(), &fault) {
+        Ok(line) => eprintln!(rt; "example_acceptor: {line}"),
+        Err(_) => eprintln!(rt; "example_acceptor: out of memory"),
+    };
     ExitCode::FAILURE
 }
 

@@ -7,6 +7,7 @@ use byte_streams::{Sink, Source, read_full};
 use gss_acceptor::{Accepted, Acceptor, Continuation, Established, Negotiation};
 use gss_contexts::Context;
 use krb_clock::now;
+use krb_commands::PrintableName;
 use krb_time::Moment;
 use std::alloc::Global;
 use std::time::Clock;
@@ -171,7 +172,10 @@ fn begin<W: Sink>(
     if let Some(reply) = reply {
         send(rt.alloc(), writer, CONTEXT, reply)?;
     }
-    let name = client.with_realm(&realm);
+    let name = PrintableName {
+        components: client.name_string.0.as_slice(),
+        realm: &realm,
+    };
     // The login stands where standard error takes nothing.
     let _ = eprintln!(rt; "{name} logged in");
     Ok(context)

@@ -8,7 +8,7 @@ use krb_account_texts::{
     AccountLine, EditRefusal, Line, RealmLine, add, change_key, principal_name, realm_among, remove,
 };
 use krb_accounts::{Account, Settings, USUAL_LIFETIME, USUAL_SKEW, realm_name_of};
-use krb_commands::{FileKind, Stop, begin, begin_first, failed, refused};
+use krb_commands::{FileKind, Stop, begin, begin_first, failed, printable_of, refused};
 use krb_crypto::{CipherSuite, Key};
 use krb_settings::{Secret, suite_name};
 use krb_types::data_types::PrincipalName;
@@ -145,7 +145,7 @@ fn realm_listed(alloc: Global, realm: &RealmLine) -> Result<String, AllocError> 
 }
 
 fn account_listed(alloc: Global, own: &AccountLine) -> Result<String, AllocError> {
-    let name = &own.name;
+    let name = printable_of(alloc, &own.name)?;
     let suite = suite_name(own.account.suite());
     let kvno = own.account.kvno();
     let kind = if own.account.salt().is_some() {

@@ -5,10 +5,11 @@ use crate::records::{RealmRecords, records_in, unwritten};
 use crate::texts::finish;
 use crate::warner::Warner;
 use crate::warnings::Stream;
-use cdb::{Record, answers_as};
-use krb_account_files::{RECORD_ROOM, RealmParameters, record_of_realm, write_records};
+use cdb::{FileAt, Record, answers_as, find};
+use krb_account_files::{REALM_KEY, RECORD_ROOM, RealmParameters, record_of_realm, write_records};
 use krb_commands::{FileKind, Stop, begin, octets_of, refused};
 use std::alloc::Global;
+use std::fs;
 
 /// `make TEXT DATABASE`: makes the database of a text.
 pub(crate) fn make(rt: &HostRuntime, arguments: &[String]) -> Result<(), Stop> {
@@ -16,8 +17,25 @@ pub(crate) fn make(rt: &HostRuntime, arguments: &[String]) -> Result<(), Stop> {
         return Err(expected(rt.alloc(), "make TEXT DATABASE"));
     };
     let new_file = begin(rt, database.as_str(), FileKind::Database, &[path.as_str()])?;
-    let octets = made(rt, path.as_str());
+    let octets = if new_file.is_first() || has_realm(rt, database.as_str()) {
+        made(rt, path.as_str())
+    } else {
+        Err(refused(
+            rt.alloc(),
+            format_args!(
+                "{database} is there, and has no realm: expected a database, or no such file"
+            ),
+        ))
+    };
     finish(rt, new_file, octets)
+}
+
+// Whether a constant database has the record of a realm. Else it is one of another program.
+fn has_realm(rt: &HostRuntime, path: &str) -> bool {
+    match fs::open(rt, path) {
+        Ok(file) => find(&FileAt { file }, &[REALM_KEY]).is_ok_and(|found| found.is_some()),
+        Err(_) => false,
+    }
 }
 
 // The octets of the database of a text.

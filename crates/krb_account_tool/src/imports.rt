@@ -6,7 +6,7 @@ use crate::secrets::{SaltedKey, key_of_password};
 use crate::texts::finish_text;
 use krb_account_texts::{AccountLine, EditRefusal, Line, RealmLine, add, principal_name};
 use krb_accounts::{Account, RealmRefusal, Settings, components_of, realm_name_of};
-use krb_commands::{FileKind, Stop, begin_first, octets_of, refused};
+use krb_commands::{FileKind, Stop, begin_first, octets_of, printable_of, refused};
 use krb_crypto::{CipherSuite, Key};
 use krb_settings::{AccountSettings, RealmSettings, Secret, SettingsFault, read_settings_file};
 use krb_settings_check::{Place, Rule, explain, explain_rule, warnings_of};
@@ -60,8 +60,9 @@ fn warn_of_settings(
 ) -> Result<(), Stop> {
     let path = source.path;
     for remark in &warnings_of(rt.alloc(), source.text, written)? {
+        let line = printable_of(rt.alloc(), format_args!("{path}{remark}"))?;
         // A warning that can't be written is no fault.
-        let _ = eprintln!(rt; "krb_accounts: {path}{remark}");
+        let _ = eprintln!(rt; "krb_accounts: {line}");
     }
     Ok(())
 }

@@ -3,12 +3,13 @@
 //! A text file is the master: `krb_account_texts` has its lines. The database that a KDC reads is made of it. `krb_accounts --help`
 //! prints the commands. Passwords and accounts' keys come by standard input alone, and no key is shown.
 //!
-//! A file is written whole or not at all. The new file is made beside the old one, under its name with `.new`, with mode 0600, and takes
-//! its place once it is on disk. While it is there no other run writes. If a run fails, it removes its new file, and the old file stands.
+//! A file is written whole or not at all. The new file is made beside the old one, under a name of its own, with mode 0600, and takes its
+//! place once it is on disk. Another run waits meanwhile, for up to ten seconds. If a run fails, it removes its new file, and the old file
+//! stands. What is there is replaced only if it is of its own kind or empty, and none of the files that the command reads.
 //!
-//! The status is 0 if the command was done. It is 1 if a text, a name, a key or a password was refused, or if `check` found a
-//! difference. It is 2 if the arguments are none, another run writes, a file can't be read or written, or memory ran out. One line on
-//! standard error says what was expected.
+//! The status is 0 if the command was done. It is 1 if a text, a name, a key or a password was refused, if a file is there that stays, or
+//! if `check` found a difference. It is 2 if the arguments are none, another run writes, a file can't be read or written, or memory ran
+//! out. One line on standard error says what was expected.
 //!
 //! It is safe, returns, and meets what its calls require. No contract says what files and standard output hold.
 #![tactic(auto)]

@@ -3,7 +3,7 @@
 use crate::secrets::octets_of;
 use crate::texts::account_among;
 use krb_account_texts::{Line, RealmLine};
-use krb_commands::{Stop, print_line};
+use krb_commands::{Stop, print_line, printable_of};
 use krb_crypto::CipherSuite;
 use krb_settings::{AccountSettings, RealmSettings, Secret};
 use krb_settings_check::warnings_of;
@@ -88,6 +88,7 @@ pub(crate) fn say<D: Display + Drop>(
     stream: Stream,
     warning: D,
 ) -> Result<(), Stop> {
+    let warning = printable_of(rt.alloc(), warning)?;
     match stream {
         Stream::Error => {
             let _ = eprintln!(rt; "krb_accounts: {warning}");

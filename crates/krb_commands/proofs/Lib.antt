@@ -1,3 +1,4 @@
 mod Apart
 mod Moments
 mod Named
+mod Fronts

@@ -1,5 +1,5 @@
 -- The moment that an option's value names.
-use Rattle.std.proofs.Common.{◌≡◌, Option, Some, Result, Ok, List, ℕ, sym}
+use Rattle.std.proofs.Common.{◌≡◌, Option, Some, Result, Ok, sym}
 use Rattle.krb_time.specs.Calendar.{IsMomentOfText}
 use Rattle.krb_time.specs.Units.{Micros}
 use Rattle.krb_commands.specs.Arguments.{IsGivenMoment, Text}

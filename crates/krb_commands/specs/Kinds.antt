@@ -1,6 +1,6 @@
 -- The kinds of files: how long one may be, and what its first octets show of its kind.
-use Rattle.std.specs.Prelude.{ℕ, ◌+◌, ◌*◌, ◌==◌, ◌&&◌, ◌||◌, not, nat_eq, nat_lt, Bool, true, false, List, [], ◌∷◌, drop, length, Option, None, Some}
-use Rattle.std.specs.List.{find, slice_split, starts_with}
+use Rattle.std.specs.Prelude.{ℕ, zero, suc, ◌+◌, ◌*◌, ◌==◌, ◌&&◌, ◌||◌, not, nat_eq, nat_lt, Bool, true, false, List, [], ◌∷◌, length, if◌then◌else◌}
+use Rattle.std.specs.List.{starts_with}
 use Rattle.byte_layouts.specs.Numbers.{le32_at}
 use Rattle.cdb.specs.declared.format.TheConstants.{HEADER_SIZE, PAIR_SIZE, TABLES}
 use Rattle.krb_commands.specs.declared.kinds.FileKind.{FileKind}
@@ -20,28 +20,33 @@ limit_of Settings = SMALL_LIMIT
 abbrev pub begins_with : List ℕ → List ℕ → Bool
 begins_with start octets = starts_with nat_eq octets start
 
--- A line is a comment if it begins with `#` (35).
-abbrev pub is_comment : List ℕ → Bool
-is_comment line = begins_with (35 ∷ []) line
+-- The octets from the first line on that doesn't begin with `#` (35). It begins behind a line feed (10), or where there are no comments.
+abbrev pub behind_comments : Bool → List ℕ → List ℕ
+behind_comments is_comment [] = []
+behind_comments true (octet ∷ octets) = behind_comments (not (octet == 10)) octets
+behind_comments false (octet ∷ octets) = if octet == 35 then behind_comments true octets else octet ∷ octets
 
--- The first line that is no comment begins as that of a realm. Without such a line the octets don't show another kind.
-abbrev pub is_line_of_realm : Option (List ℕ) → Bool
-is_line_of_realm None = true
-is_line_of_realm (Some line) = begins_with REALM_WORD.now line
-
--- the front of a text of accounts: lines with a line feed (10) between each two
+-- The front of a text of accounts: the first line that is no comment begins as that of a realm. Comments alone don't show another kind.
 abbrev pub is_accounts : List ℕ → Bool
-is_accounts front = is_line_of_realm (find (λ line. not (is_comment line)) (slice_split (λ octet. octet == 10) front))
+is_accounts front = let lines = behind_comments false front in nat_eq (length lines) 0 || begins_with REALM_WORD.now lines
 
--- The hash tables of this many pointers stand one behind the other, the first at `place`. A pointer is a position and a count of slots.
-abbrev pub are_joined : ℕ → ℕ → List ℕ → Bool
-are_joined 0 place pointers = true
-are_joined (suc count) place pointers =
-    (le32_at 0 pointers == place) && are_joined count (place + le32_at 4 pointers * PAIR_SIZE) (drop PAIR_SIZE pointers)
+-- The hash tables of this many pointers from `place` on stand one behind the other, the first at `start`. A pointer is the position of a
+-- table and the count of its slots.
+abbrev pub are_joined : ℕ → ℕ → ℕ → List ℕ → Bool
+are_joined zero place start front = true
+are_joined (suc count) place start front =
+    (le32_at place front == start) && are_joined count (place + PAIR_SIZE) (start + le32_at (place + 4) front * PAIR_SIZE) front
+
+-- All hash tables of a header stand one behind the other, the first at `start`.
+unfoldable pub all_joined : ℕ → List ℕ → Bool
+all_joined start front = are_joined TABLES 0 start front
 
 -- The front of a database: the header of a constant database. Its first hash table stands behind the header.
+abbrev pub is_header : List ℕ → Bool
+is_header front = not (nat_lt (le32_at 0 front) HEADER_SIZE) && all_joined (le32_at 0 front) front
+
 abbrev pub is_database : List ℕ → Bool
-is_database front = not (nat_lt (length front) HEADER_SIZE) && (not (nat_lt (le32_at 0 front) HEADER_SIZE) && are_joined TABLES (le32_at 0 front) front)
+is_database front = not (nat_lt (length front) HEADER_SIZE) && is_header front
 
 -- the front of a keytab: version 0x0502
 abbrev pub is_keytab : List ℕ → Bool

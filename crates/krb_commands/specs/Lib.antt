@@ -1,4 +1,5 @@
+pub mod Printable
+pub mod Kinds
 pub mod Stops
 pub mod Arguments
 pub mod Given
-pub mod Kinds

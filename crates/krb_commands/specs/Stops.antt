@@ -1,5 +1,6 @@
 -- Why a command was not done: its text and the program's status.
 use Rattle.std.specs.Prelude.{◌≡◌, ℕ, List, codes, Option, IfSome, string_bytes}
+use Rattle.krb_commands.specs.Printable.{printable_text}
 use Rattle.krb_commands.specs.declared.stop.Stop.{Stop}
 use Rattle.krb_commands.specs.declared.stop.Stop.TheVariants.{Refused, Failed, Usage, Memory}
 
@@ -10,11 +11,11 @@ status_of (Failed text) = 2
 status_of (Usage text) = 2
 status_of Memory = 2
 
--- the line of a stop
+-- The line of a stop: its text, in which each octet that isn't printable is a backslash, `x` and two hexadecimal digits.
 abbrev pub stop_text : Stop → List ℕ
-stop_text (Refused text) = string_bytes text
-stop_text (Failed text) = string_bytes text
-stop_text (Usage text) = string_bytes text
+stop_text (Refused text) = printable_text (string_bytes text)
+stop_text (Failed text) = printable_text (string_bytes text)
+stop_text (Usage text) = printable_text (string_bytes text)
 stop_text Memory = codes "out of memory"
 
 -- The stop is a refusal with this text, if the text is known, or memory ran out.

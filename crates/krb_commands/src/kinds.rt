@@ -1,7 +1,6 @@
 //! What kinds of files commands read and write, and how a file's front shows its kind.
-ghost use Rattle.std.specs.Prelude.{◌≡◌, ◌≤◌, ◌&&◌, length, not, nat_lt};
-ghost use Rattle.byte_layouts.specs.Numbers.{le32_at};
-ghost use Rattle.krb_commands.specs.Kinds.{are_joined, is_accounts, is_cache, is_database};
+ghost use Rattle.std.specs.Prelude.{◌≡◌, ◌≤◌, false, length};
+ghost use Rattle.krb_commands.specs.Kinds.{all_joined, behind_comments, is_accounts, is_cache, is_database, is_header};
 
 use byte_layouts::u32_le;
 use cdb::{HEADER_SIZE, PAIR_SIZE, TABLES};
@@ -55,8 +54,8 @@ impl FileKind {
         }
     }
 
-    /// Whether a file with these first octets is of this kind, as far as they show it. A command puts a new file only in the place of such a
-    /// one, so no file is of a kind that no command writes.
+    /// Whether a file with these first octets is of this kind, as far as they show it. A command puts a new file only in the place of such
+    /// a one, so no file is of a kind that no command writes.
     pub fn has_front(self, front: &[u8]) -> bool
         ensures { result ≡ is_of_kind self front.now }
     {
@@ -96,11 +95,25 @@ fn is_cache(front: &[u8]) -> bool
 fn is_accounts(front: &[u8]) -> bool
     ensures { result ≡ is_accounts front.now }
 {
-    let mut lines = front.split(|octet| *octet == b'\n');
-    match lines.find(|line| !line.starts_with(b"#")) {
-        Some(line) => line.starts_with(REALM_WORD),
-        None => true,
+    let lines = behind_comments(front);
+    lines.is_empty() || lines.starts_with(REALM_WORD)
+}
+
+// The octets from the first line on that is no comment.
+fn behind_comments(front: &[u8]) -> &[u8]
+    ensures { result.now ≡ behind_comments false front.now }
+{
+    let mut is_comment = false;
+    for (place, octet) in front.iter().enumerate() {
+        if is_comment {
+            is_comment = *octet != b'\n';
+        } else if *octet == b'#' {
+            is_comment = true;
+        } else {
+            return &front[place..];
+        }
     }
+    &[]
 }
 
 // Whether octets begin with the header of a constant database, whose hash tables stand one behind the other.
@@ -110,15 +123,20 @@ fn is_database(front: &[u8]) -> bool
     front.len() >= HEADER_SIZE && is_header(front)
 }
 
-// Whether the header of a constant database says so.
+// Whether octets begin so that are enough for a header.
 fn is_header(front: &[u8]) -> bool
     requires { HEADER_SIZE ≤ length front.now }
-    ensures { result ≡ (not (nat_lt (le32_at 0 front.now) HEADER_SIZE) && are_joined TABLES (le32_at 0 front.now) front.now) }
+    ensures { result ≡ is_header front.now }
 {
     let first = u32_le(front, 0);
-    if (first as usize) < HEADER_SIZE {
-        return false;
-    }
+    first as usize >= HEADER_SIZE && all_joined(front, first)
+}
+
+// Whether the hash tables of a header stand one behind the other, the first at this position.
+fn all_joined(front: &[u8], first: u32) -> bool
+    requires { HEADER_SIZE ≤ length front.now }
+    ensures { result ≡ all_joined first front.now }
+{
     let mut end = u64::from(first);
     for table in 0..TABLES as usize {
         let place = table * PAIR_SIZE as usize;

@@ -8,9 +8,11 @@
 //! that the command reads. [`octets_of`] reads a file up to the limit of its kind. [`Printable`] and [`PrintableName`] show what comes from
 //! files and peers.
 //!
-//! Each call is safe and returns. `limit` and `has_front` of `FileKind` are `limit_of` and `is_of_kind`. `given_of` takes arguments apart, or refuses them in a text, both as `parts_of` says. `Given` has the
-//! words and values of those parts. `principal_in` reads a name as `krb_types` does, and refuses only what isn't one. A `Stop` has the
-//! text of `stop_text` and the status of `status_of`. No contract says what files, the program's arguments and standard output hold.
+//! Each call is safe and returns. `limit` and `has_front` of `FileKind` are `limit_of` and `is_of_kind`. `Printable` and `PrintableName`
+//! print `printable_text` and `printable_name`. `given_of` takes arguments apart, or refuses them in a text, both as `parts_of` says.
+//! `Given` has the words and values of those parts. `principal_in` reads a name as `krb_types` does, and refuses only what isn't one. A
+//! `Stop` has the text of `stop_text` and the status of `status_of`. No contract says what files, the program's arguments and standard
+//! output hold.
 #![tactic(auto)]
 
 mod arguments;
@@ -27,6 +29,6 @@ pub use arguments::{Given, arguments_of, given_of, is_word, principal_in};
 pub use files::{NewFile, begin, begin_first, write_file};
 pub use kinds::{ACCOUNTS_LIMIT, FileKind, KEYS_LIMIT, SMALL_LIMIT};
 pub use output::print_line;
-pub use printable::{Printable, PrintableName};
+pub use printable::{Printable, PrintableName, printable_of};
 pub use reading::{is_there, keytab_in, octets_of};
 pub use stop::{Stop, failed, refused, usage};

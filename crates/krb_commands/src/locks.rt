@@ -4,7 +4,7 @@ use crate::places::unwritten;
 use crate::reading::other_than_file;
 use crate::stop::{Stop, failed, refused};
 use std::alloc::{AllocError, Global};
-use std::fs::{self, File, Metadata, TryLockError};
+use std::fs::{self, File, Metadata, OpenOptions, TryLockError};
 use std::io::{self, ErrorKind, Read};
 use std::os::unix::fs::MetadataExt;
 use std::thread;
@@ -113,11 +113,19 @@ fn is_file_at(rt: &HostRuntime, path: &str) -> Result<bool, Stop> {
 
 // The file at a path with its lock, if no other run has that.
 fn locked_file(rt: &HostRuntime, path: &str) -> io::Result<Option<File>> {
-    let file = fs::open(rt, path)?;
+    let file = opened(rt, path)?;
     match file.try_lock() {
         Ok(()) => Ok(Some(file)),
         Err(TryLockError::WouldBlock) => Ok(None),
         Err(TryLockError::Error(fault)) => Err(fault),
+    }
+}
+
+// The file at a path, open for writing where it may be: a lock on a file of another machine (NFS) takes that. Nothing is written to it.
+fn opened(rt: &HostRuntime, path: &str) -> io::Result<File> {
+    match OpenOptions::new().read(true).write(true).open(rt, path) {
+        Ok(file) => Ok(file),
+        Err(_) => fs::open(rt, path),
     }
 }
 
@@ -190,4 +198,36 @@ fn holder_in(line: &str, file: &str) -> Option<u32> {
         return None;
     }
     process.parse::<u32>().ok()
+}
+
+#[cfg(test)]
+mod tests {
+    use super::*;
+    use std::test::Fail;
+
+    // Lines as Linux 6.1 writes them: locks of flock and of fcntl, and a process that waits.
+    const HELD: &str = "1: FLOCK  ADVISORY  WRITE 4711 fe:00:2310181 0 EOF";
+
+    const OF_RECORDS: &str = "2: POSIX  ADVISORY  WRITE 4712 fe:00:2310181 0 EOF";
+
+    const WAITING: &str = "1: -> FLOCK  ADVISORY  WRITE 4713 fe:00:2310181 0 EOF";
+
+    #[test]
+    fn holders(rt: HostRuntime) {
+        assert!(rt; holder_in(HELD, "fe:00:2310181") == Some(4711));
+        assert!(rt; holder_in(HELD, "fe:01:2310181").is_none());
+        assert!(rt; holder_in(OF_RECORDS, "fe:00:2310181").is_none());
+        assert!(rt; holder_in(WAITING, "fe:00:2310181").is_none());
+        assert!(rt; holder_in("", "fe:00:2310181").is_none());
+    }
+
+    // makedev(3): a minor number of more than eight bits lies around the major one.
+    #[test]
+    fn devices(rt: HostRuntime) -> Result<(), Fail> {
+        let file = listed_file(rt.alloc(), 0xfe00, 2_310_181)?;
+        assert!(rt; file.as_str() == "fe:00:2310181");
+        let file = listed_file(rt.alloc(), 0x0010_0801, 7)?;
+        assert!(rt; file.as_str() == "08:101:7");
+        Ok(())
+    }
 }

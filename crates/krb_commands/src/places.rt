@@ -1,7 +1,7 @@
 //! Where a file is written: what a path names, and the folder that has it.
 
 use crate::stop::{Stop, failed, refused};
-use std::alloc::Global;
+use std::alloc::{AllocError, Global};
 use std::fs;
 use std::io::{self, ErrorKind};
 use std::random::RandomSource;
@@ -44,30 +44,24 @@ fn link_at(rt: &HostRuntime, path: &str) -> io::Result<Option<String>> {
         _ => return Ok(None),
     }
     let target = fs::read_link(rt, path)?;
-    let target = target.as_str();
-    let folder = if target.starts_with('/') {
-        ""
-    } else {
-        &path[..name_start(path)]
-    };
-    Ok(Some(format!(in rt.alloc(); "{folder}{target}")?))
+    let place = joined(rt.alloc(), path, target.as_str())?;
+    Ok(Some(place))
+}
+
+// The path that a link at a path writes: from the link's folder on, if it doesn't begin with a slash.
+fn joined(alloc: Global, link: &str, target: &str) -> Result<String, AllocError> {
+    match link.rsplit_once('/') {
+        Some((folder, _)) if !target.starts_with('/') => { format!(in alloc; "{folder}/{target}") }
+        _ => String::from_str(alloc, target),
+    }
 }
 
 // The place, if its last part is a name.
 fn named(alloc: Global, place: String) -> Result<String, Stop> {
-    let text = place.as_str();
-    if name_start(text) < text.len() {
-        return Ok(place);
+    if place.as_str().is_empty() || place.as_str().ends_with('/') {
+        return Err(refused(alloc, format_args!("{place}: expected the name of a file")));
     }
-    Err(refused(alloc, format_args!("{place}: expected the name of a file")))
-}
-
-// Where the last part of a path begins: behind the last slash.
-fn name_start(path: &str) -> usize {
-    match path.rfind('/') {
-        None => 0,
-        Some(slash) => slash + 1,
-    }
+    Ok(place)
 }
 
 /// The folder of a path.
@@ -85,13 +79,14 @@ pub(crate) fn new_path_beside(rt: &HostRuntime, place: &str) -> Result<String, S
     if let Err(fault) = rt.fill_bytes(&mut octets) {
         return Err(unwritten(rt.alloc(), place, fault));
     }
-    let (folder, name) = place.split_at(name_start(place));
-    let mut path = format!(in rt.alloc(); "{folder}.{name}.")?;
+    let mut letters = String::new(rt.alloc());
     for octet in octets {
-        path.push(char::from(ALPHABET[usize::from(octet % 32)]))?;
+        letters.push(char::from(ALPHABET[usize::from(octet % 32)]))?;
     }
-    path.push_str(".new")?;
-    Ok(path)
+    Ok(match place.rsplit_once('/') {
+        Some((folder, name)) => format!(in rt.alloc(); "{folder}/.{name}.{letters}.new")?,
+        None => format!(in rt.alloc(); ".{place}.{letters}.new")?,
+    })
 }
 
 /// The failure of a file that can't be written.
@@ -99,5 +94,31 @@ pub(crate) fn unwritten(alloc: Global, path: &str, fault: io::Error) -> Stop {
     match fault.kind() {
         ErrorKind::OutOfMemory => Stop::Memory,
         _ => failed(alloc, format_args!("{path} can't be written: {fault}")),
+    }
+}
+
+#[cfg(test)]
+mod tests {
+    use super::*;
+
+    fn leads_to(alloc: Global, link: &str, target: &str, place: &str) -> bool {
+        match joined(alloc, link, target) {
+            Ok(path) => path.as_str() == place,
+            Err(_) => false,
+        }
+    }
+
+    #[test]
+    fn links(rt: HostRuntime) {
+        assert!(rt; leads_to(rt.alloc(), "a/link", "accounts", "a/accounts"));
+        assert!(rt; leads_to(rt.alloc(), "a/link", "../accounts", "a/../accounts"));
+        assert!(rt; leads_to(rt.alloc(), "a/link", "/accounts", "/accounts"));
+        assert!(rt; leads_to(rt.alloc(), "/link", "accounts", "/accounts"));
+        assert!(rt; leads_to(rt.alloc(), "link", "accounts", "accounts"));
+        assert!(rt;
+            folder_of("/accounts") == "/"
+                && folder_of("accounts") == "."
+                && folder_of("a/b/c") == "a/b"
+        );
     }
 }

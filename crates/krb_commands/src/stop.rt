@@ -3,10 +3,11 @@ ghost use Rattle.std.specs.Prelude.{◌≡◌};
 ghost use Rattle.krb_commands.specs.Stops.{IsFailure, IsRefusal, IsUsage};
 ghost use Rattle.krb_commands.specs.declared.stop.Stop.TheVariants as stop;
 
+use crate::printable::Printable;
 use std::alloc::{AllocError, AllocFailed, Global};
 use std::fmt;
 
-/// Why a command was not done, in one line that shows no secret.
+/// Why a command was not done, in one line that shows no secret. It is displayed as [`Printable`] shows it.
 #[derive(Debug, Drop)]
 pub enum Stop {
     /// What the command was given, or what it was answered, was refused.
@@ -42,7 +43,8 @@ impl fmt::Display for Stop {
     fn fmt<W: fmt::Write>(&self, f: &mut fmt::Formatter<W>) -> fmt::Result {
         match self {
             Stop::Refused(text) | Stop::Failed(text) | Stop::Usage(text) => {
-                f.write_str(text.as_str())
+                let text = Printable(text.as_bytes());
+                write!(f, "{text}")
             }
             Stop::Memory => f.write_str("out of memory"),
         }

@@ -1,15 +1,14 @@
 //! The command `list`.
 
-use krb_account_texts::principal_name;
+use crate::mit::stop_of;
 use krb_clock::after_epoch;
-use krb_commands::{Stop, failed, keytab_in};
+use krb_commands::{PrintableName, Stop, failed, keytab_in};
 use krb_crypto::CipherSuite;
 use krb_keytabs::KeytabRecord;
 use krb_settings::suite_name;
-use picky_asn1::wrapper::GeneralStringAsn1;
 use std::alloc::{AllocError, Global};
 
-/// `list FILE`: prints the kvno, the time, the principal and the etype of each entry.
+/// `list FILE`: prints the kvno, the time, the principal and the etype of each entry, and whether MIT's library reads it.
 pub(crate) fn list(rt: &HostRuntime, path: &str) -> Result<(), Stop> {
     let keytab = keytab_in(rt, path)?;
     let mut text = String::new(rt.alloc());
@@ -25,11 +24,23 @@ pub(crate) fn list(rt: &HostRuntime, path: &str) -> Result<(), Stop> {
 fn put_entry(alloc: Global, text: &mut String, record: &KeytabRecord) -> Result<(), AllocError> {
     let kvno = record.kvno();
     let time = time_text(alloc, record.timestamp())?;
-    let principal = principal_text(alloc, record)?;
+    let principal = PrintableName {
+        components: record.components(),
+        realm: record.realm(),
+    };
     let etype = etype_text(alloc, record.etype())?;
-    let line = format!(in alloc; "{kvno:>4} {time} {principal} ({etype})\n")?;
+    let stop = stop_text(alloc, record)?;
+    let line = format!(in alloc; "{kvno:>4} {time} {principal} ({etype}){stop}\n")?;
     text.push_str(line.as_str())?;
     Ok(())
+}
+
+// What a line says of an entry at which MIT's library stops.
+fn stop_text(alloc: Global, record: &KeytabRecord) -> Result<String, AllocError> {
+    match stop_of(record.realm(), record.components(), record.key_octets()) {
+        Some(part) => format!(in alloc; ": MIT's library reads no further: {part}"),
+        None => Ok(String::new(alloc)),
+    }
 }
 
 // The time that is so many seconds after the start of 1970, in UTC.
@@ -39,25 +50,6 @@ fn time_text(alloc: Global, seconds: u32) -> Result<String, AllocError> {
         None => format!(in alloc; "{seconds}")?,
     };
     Ok(text)
-}
-
-// The principal with its realm, as RFC 1964 has it (section 2.1.3).
-fn principal_text(alloc: Global, record: &KeytabRecord) -> Result<String, AllocError> {
-    let components = copies_of(alloc, record.components())?;
-    let name = principal_name(alloc, components)?;
-    let text = format!(in alloc; "{}", name.with_realm(record.realm()))?;
-    Ok(text)
-}
-
-fn copies_of(
-    alloc: Global,
-    components: &[GeneralStringAsn1],
-) -> Result<Vec<GeneralStringAsn1>, AllocError> {
-    let mut copies = Vec::with_capacity(alloc, components.len())?;
-    for component in components {
-        copies.push(component.clone()?)?;
-    }
-    Ok(copies)
 }
 
 // The name of an etype, or its number if no suite has it.

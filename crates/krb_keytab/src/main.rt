@@ -1,8 +1,11 @@
 //! The program `krb_keytab`: lists the entries of a keytab, and copies chosen entries to a new keytab. `krb_keytab --help` prints the
 //! commands.
 //!
-//! No key is shown. The new file is made under its name with `.new`, with mode 0600, and takes its name once it is on disk. If a run fails,
-//! it removes that file.
+//! No key is shown. The new file has a name of its own beside TO, with mode 0600, and takes TO's once it is on disk. If a run fails, it
+//! removes that file.
+//!
+//! An entry at which MIT's library stops (1.20.1, `krb5_kt_next_entry`) is marked, since a stock service sees no entry from there on.
+//! `specs/Mit` says which entries these are.
 //!
 //! The status is 0 if the command was done. It is 1 if the file is no keytab, no entry fits, or the new file's name is taken. It is 2 if
 //! the arguments are none, a file can't be read or written, or memory ran out. One line on standard error says what was expected.
@@ -13,6 +16,7 @@
 mod choice;
 mod copying;
 mod listing;
+mod mit;
 
 use krb_commands::{Stop, arguments_of, is_word, print_line, usage};
 use krb_version::VERSION;
@@ -24,7 +28,8 @@ const USAGE: &str = "usage:
   krb_keytab copy FROM TO [--kvno N] [--etype ETYPE] [PRINCIPAL ..]        writes the entries that fit to TO, which isn't there yet
   krb_keytab --help, krb_keytab --version
 PRINCIPAL is as list prints it, as in host/server.example.com@EXAMPLE.COM. Without its realm it is that name in each realm. With none each
-principal's entries are copied. ETYPE is a name, as aes256-cts-hmac-sha1-96, or a number.";
+principal's entries are copied. ETYPE is a name, as aes256-cts-hmac-sha1-96, or a number. In a name list shows an octet that isn't printable
+as \\x and two hexadecimal digits. Where it says that MIT's library reads no further, stock services see neither that entry nor those behind.";
 
 fn main(rt: HostRuntime) -> ExitCode {
     let stop = match run(&rt) {
