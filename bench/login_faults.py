@@ -203,7 +203,7 @@ def refusals(program):
         (certified("password"), 1, f"password: the file is text that has no BEGIN line of what is asked for: {wanted}"),
         ([*cache, *password, "-r", "missing", *user], 2, "missing can't be read: "),
         ([*cache, *password, "-r", "/dev/null", *user], 2, "/dev/null: expected 96 random octets for each request"),
-        (["-c", "missing/cache", *ARGUMENTS[2:]], 2, "missing/"),
+        (["-c", "missing/cache", *ARGUMENTS[2:]], 2, "missing/cache can't be written: "),
     ]
     faults, texts = [], []
     for words, status, line in rows:

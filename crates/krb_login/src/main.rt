@@ -12,8 +12,8 @@
 //! encrypted timestamp in another suite, and none under another salt. A session key of a suite that wasn't listed is refused.
 //!
 //! Before the first request it makes a file beside the cache and takes it away, to see that the folder takes one. The cache is written at the
-//! end, under a name of its own, with mode 0600, and takes its place once it is on disk. If a run fails, the old cache stays. What is there is
-//! replaced only if it is a cache or empty, and none of the files that the login reads.
+//! end, under a name of its own, with mode 0600, and takes its place once it is on disk. If a run fails, the old cache stays. What is there
+//! is replaced only if it is a cache or empty, and none of the files that the login reads.
 //!
 //! The status is 0 if the cache was written. It is 1 if the KDC refused, if its answer was refused, or if a file has no key, password or
 //! certificate of the user. It is 2 if the arguments are none, a file or a stream can't be read or written, or memory ran out. One line on
