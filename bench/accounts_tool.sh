@@ -6,7 +6,7 @@
 set -e
 top=$(cd "$(dirname "$0")/.." && pwd)
 tool=${KRB_ACCOUNTS:-$top/crates/krb_account_tool/out/krb_account_tool}
-[ -x "$tool" ] || { echo "accounts_tool: $tool is missing: run ./krb_accounts --version first" >&2; exit 2; }
+[ -x "$tool" ] || { echo "accounts_tool: $tool is missing: run make build PROGRAM=krb_accounts first" >&2; exit 2; }
 command -v strace >/dev/null || { echo "accounts_tool: strace is missing" >&2; exit 2; }
 work=$(mktemp -d)
 trap 'cd /; umount "$work/disk" 2>/dev/null || true; rm -rf "$work"' EXIT

@@ -5,7 +5,7 @@
 set -e
 top=$(cd "$(dirname "$0")/.." && pwd)
 program=${KRB_LOGIN:-$top/crates/krb_login/out/krb_login}
-[ -x "$program" ] || { echo "login_faults: $program is missing: run ./krb_login --version first" >&2; exit 2; }
+[ -x "$program" ] || { echo "login_faults: $program is missing: run make build PROGRAM=krb_login first" >&2; exit 2; }
 for tool in cc strace; do
     command -v $tool >/dev/null || { echo "login_faults: $tool is missing" >&2; exit 2; }
 done
