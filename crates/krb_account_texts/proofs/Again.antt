@@ -22,8 +22,8 @@ use Rattle.krb_crypto.specs.Suites.{cipher_key_size}
 use Rattle.krb_crypto.specs.declared.suite.CipherSuite.{CipherSuite}
 use Rattle.krb_crypto.specs.declared.suite.CipherSuite.TheVariants.{Aes128CtsHmacSha196, Aes256CtsHmacSha196, Des3CbcSha1Kd, Aes128CtsHmacSha256128, Aes256CtsHmacSha384192}
 use Rattle.krb_settings.specs.Fields.{suite_name}
-use Rattle.krb_account_texts.specs.Lines.{WrittenLine, comment, realm, account, account_fields, disabled_mark, guarded, line_text, pkinit_text, realm_text, salt_text}
-use Rattle.krb_account_texts.specs.Reading.{account_in, disabled_of, fields, is_disabled, is_printed, judged_kvno, judged_name, key_in, kvno_in, line_in, line_of, name_in, pkinit_in, policy_in, realm_in, realm_name_in, salt_in, seconds_in, settings_of, suite_in}
+use Rattle.krb_account_texts.specs.Lines.{WrittenLine, comment, realm, account, account_fields, disabled_mark, guarded, line_text, further_text, realm_text, salt_text}
+use Rattle.krb_account_texts.specs.Reading.{account_in, disabled_of, fields, is_disabled, is_printed, judged_kvno, judged_name, key_in, kvno_in, line_in, line_of, name_in, pkinit_in, realm_in, realm_name_in, salt_in, seconds_in, settings_of, suite_in}
 use Rattle.krb_account_texts.specs.Writable.{ArePkinitBytes, IsAccount, IsComment, IsRealm, IsSalt, IsWritable}
 use Rattle.krb_account_texts.proofs.Numbers.{decimal-read}
 use Rattle.krb_account_texts.proofs.Plain.{all-both, all-cons, is_all_plain, is_plain, no_feed, no_tab, plain-decimal, plain-hex, plain-name, plain-suite, split-last, split-part}
@@ -194,15 +194,6 @@ settings-again settings skew from_one lifetime =
     let third : nat_le settings.lifetime 31536000 ≡ true = grind (arith, nat_tests) in
     rw (first, second, third) refl
 
--- the field of a policy, if it has one
-abbrev policy_field : Bool → Option (List ℕ)
-policy_field limits = if limits then Some (codes "limits-des3") else None
-
-policy-again : (limits : Bool) → policy_in (policy_field limits) ≡ Ok (record { limits_des3 = limits })
-unfolding policy_in
-policy-again true = refl
-policy-again false = refl
-
 pkinit-again : (pkinit : Option Bytes) → ArePkinitBytes pkinit → pkinit_in (option_map encode_lower pkinit) ≡ Ok pkinit
 pkinit-again None are = refl
 pkinit-again (Some octets) are =
@@ -212,13 +203,13 @@ pkinit-again (Some octets) are =
     rw (decode_of-encode_lower octets bytes, some) refl
 
 realm-again : (name : Bytes) (settings : SettingsRecord) (pkinit : Option Bytes) → IsRealm name settings pkinit
-    → realm_in name (decimal settings.skew) (decimal settings.lifetime) (policy_field settings.policy.limits_des3) (option_map encode_lower pkinit) ≡ Ok (realm name settings pkinit)
+    → realm_in name (decimal settings.skew) (decimal settings.lifetime) settings.policy (option_map encode_lower pkinit) ≡ Ok (realm name settings pkinit)
 unfolding realm_in realm_name_in
 realm-again name settings pkinit is =
     let skew = is.settings_are.0 in
     let from_one = is.settings_are.1.0 in
     let lifetime = is.settings_are.1.1 in
-    rw (is.name_is, is.printed, seconds-again settings.skew (omega arith), seconds-again settings.lifetime (omega arith), settings-again settings skew from_one lifetime, policy-again settings.policy.limits_des3, pkinit-again pkinit is.pkinit_are) refl
+    rw (is.name_is, is.printed, seconds-again settings.skew (omega arith), seconds-again settings.lifetime (omega arith), settings-again settings skew from_one lifetime, pkinit-again pkinit is.pkinit_are) refl
 
 -- the parts of the realm's line
 realm-parts : (name : Bytes) (settings : SettingsRecord) (pkinit : Option Bytes) → IsRealm name settings pkinit → (last : List ℕ) (parts : List (List ℕ))
@@ -240,35 +231,26 @@ plain-lifetime name settings pkinit is = let lifetime_is = is.settings_are.1.1 i
 -- the further fields of the realm's line, and the line that they have
 abbrev further_fields : Bool → Option Bytes → List (List ℕ)
 further_fields false None = []
-further_fields true None = codes "policy" ∷ codes "limits-des3" ∷ []
+further_fields true None = codes "limits-des3" ∷ codes "-" ∷ []
 further_fields false (Some octets) = codes "pkinit" ∷ encode_lower octets ∷ []
-further_fields true (Some octets) = codes "policy" ∷ codes "limits-des3" ∷ codes "pkinit" ∷ encode_lower octets ∷ []
+further_fields true (Some octets) = codes "limits-des3,pkinit" ∷ encode_lower octets ∷ []
 
-abbrev further_text : Bool → Option Bytes → List ℕ
-further_text limits pkinit = (if limits then codes "\tpolicy\tlimits-des3" else []) ++ pkinit_text pkinit
+-- two plain fields behind a plain one
+two-parts : (first words last : List ℕ) → is_all_plain first ≡ true → is_all_plain words ≡ true → is_all_plain last ≡ true
+    → fields (first ++ 9 ∷ (words ++ 9 ∷ last)) ≡ first ∷ words ∷ last ∷ []
+two-parts first words last plain_first plain_words plain_last =
+    tab-part first (words ++ 9 ∷ last) plain_first
+    ∙ ap (λ more. first ∷ more) (tab-part words last plain_words ∙ ap (λ more. words ∷ more) (tab-last last plain_last))
 
 further-parts : (lifetime : List ℕ) → is_all_plain lifetime ≡ true → (limits : Bool) (pkinit : Option Bytes)
     → fields (lifetime ++ further_text limits pkinit) ≡ lifetime ∷ further_fields limits pkinit
 further-parts lifetime plain false None = rw append-nil (tab-last lifetime plain)
-further-parts lifetime plain true None =
-    tab-part lifetime (codes "policy" ++ 9 ∷ codes "limits-des3") plain
-    ∙ ap (λ more. lifetime ∷ more) (tab-part (codes "policy") (codes "limits-des3") refl ∙ ap (λ more. codes "policy" ∷ more) (tab-last (codes "limits-des3") refl))
-further-parts lifetime plain false (Some octets) =
-    let digits : List ℕ = encode_lower octets in
-    tab-part lifetime (codes "pkinit" ++ 9 ∷ digits) plain
-    ∙ ap (λ more. lifetime ∷ more) (tab-part (codes "pkinit") digits refl ∙ ap (λ more. codes "pkinit" ∷ more) (tab-last digits (plain-hex octets)))
-further-parts lifetime plain true (Some octets) =
-    let digits : List ℕ = encode_lower octets in
-    let last : List ℕ = codes "pkinit" ++ 9 ∷ digits in
-    tab-part lifetime (codes "policy" ++ 9 ∷ (codes "limits-des3" ++ 9 ∷ last)) plain
-    ∙ ap (λ more. lifetime ∷ more)
-    (tab-part (codes "policy") (codes "limits-des3" ++ 9 ∷ last) refl
-    ∙ ap (λ more. codes "policy" ∷ more)
-    (tab-part (codes "limits-des3") last refl
-    ∙ ap (λ more. codes "limits-des3" ∷ more) (tab-part (codes "pkinit") digits refl ∙ ap (λ more. codes "pkinit" ∷ more) (tab-last digits (plain-hex octets)))))
+further-parts lifetime plain true None = two-parts lifetime (codes "limits-des3") (codes "-") plain refl refl
+further-parts lifetime plain false (Some octets) = two-parts lifetime (codes "pkinit") (encode_lower octets) plain refl (plain-hex octets)
+further-parts lifetime plain true (Some octets) = two-parts lifetime (codes "limits-des3,pkinit") (encode_lower octets) plain refl (plain-hex octets)
 
 further-line : (name skew lifetime : List ℕ) (limits : Bool) (pkinit : Option Bytes)
-    → line_of (codes "realm" ∷ name ∷ skew ∷ lifetime ∷ further_fields limits pkinit) ≡ realm_in name skew lifetime (policy_field limits) (option_map encode_lower pkinit)
+    → line_of (codes "realm" ∷ name ∷ skew ∷ lifetime ∷ further_fields limits pkinit) ≡ realm_in name skew lifetime (record { limits_des3 = limits }) (option_map encode_lower pkinit)
 further-line name skew lifetime false None = refl
 further-line name skew lifetime true None = refl
 further-line name skew lifetime false (Some octets) = refl
@@ -316,19 +298,16 @@ realm-front name settings pkinit is last fed =
     (fed-part name (decimal settings.skew ++ 9 ∷ (decimal settings.lifetime ++ last)) (name-printed name is.printed)
     (fed-part (decimal settings.skew) (decimal settings.lifetime ++ last) (plain-decimal settings.skew (omega arith)) fed))
 
+two-fed : (first words last : List ℕ) → is_all_plain first ≡ true → is_all_plain words ≡ true → is_all_plain last ≡ true
+    → list_all (λ octet. not (octet == 10)) (first ++ 9 ∷ (words ++ 9 ∷ last)) ≡ true
+two-fed first words last plain_first plain_words plain_last = fed-part first (words ++ 9 ∷ last) plain_first (fed-part words last plain_words (fed-plain last plain_last))
+
 further-fed : (lifetime : List ℕ) → is_all_plain lifetime ≡ true → (limits : Bool) (pkinit : Option Bytes)
     → list_all (λ octet. not (octet == 10)) (lifetime ++ further_text limits pkinit) ≡ true
 further-fed lifetime plain false None = rw append-nil (fed-plain lifetime plain)
-further-fed lifetime plain true None = fed-part lifetime (codes "policy" ++ 9 ∷ codes "limits-des3") plain refl
-further-fed lifetime plain false (Some octets) =
-    let digits : List ℕ = encode_lower octets in
-    fed-part lifetime (codes "pkinit" ++ 9 ∷ digits) plain (fed-part (codes "pkinit") digits refl (fed-plain digits (plain-hex octets)))
-further-fed lifetime plain true (Some octets) =
-    let digits : List ℕ = encode_lower octets in
-    let last : List ℕ = codes "pkinit" ++ 9 ∷ digits in
-    fed-part lifetime (codes "policy" ++ 9 ∷ (codes "limits-des3" ++ 9 ∷ last)) plain
-    (fed-part (codes "policy") (codes "limits-des3" ++ 9 ∷ last) refl
-    (fed-part (codes "limits-des3") last refl (fed-part (codes "pkinit") digits refl (fed-plain digits (plain-hex octets)))))
+further-fed lifetime plain true None = two-fed lifetime (codes "limits-des3") (codes "-") plain refl refl
+further-fed lifetime plain false (Some octets) = two-fed lifetime (codes "pkinit") (encode_lower octets) plain refl (plain-hex octets)
+further-fed lifetime plain true (Some octets) = two-fed lifetime (codes "limits-des3,pkinit") (encode_lower octets) plain refl (plain-hex octets)
 
 realm-fed : (name : Bytes) (settings : SettingsRecord) (pkinit : Option Bytes) → IsRealm name settings pkinit → list_all (λ octet. not (octet == 10)) (realm_text name settings pkinit) ≡ true
 realm-fed name settings pkinit is =

@@ -1,6 +1,6 @@
 -- The lines of a text of accounts, and what each is written as. A tab (9) is between each two fields, and a line feed (10) after each
 -- line.
-use Rattle.std.specs.Prelude.{ℕ, ◌==◌, Bool, if◌then◌else◌, List, [], ◌∷◌, ◌++◌, slice_index, codes, string_bytes, Option, None, Some}
+use Rattle.std.specs.Prelude.{ℕ, ◌==◌, Bool, true, false, if◌then◌else◌, List, [], ◌∷◌, ◌++◌, slice_index, codes, string_bytes, Option, None, Some}
 use Rattle.std.specs.List.{flat_map}
 use Rattle.std.specs.Fmt.{decimal}
 use Rattle.hex.specs.Hex.{encode_lower}
@@ -8,7 +8,6 @@ use Rattle.picky_asn1.specs.Bytes.{Bytes}
 use Rattle.krb_types.specs.NameText.{name_text}
 use Rattle.krb_accounts.specs.Account.{AccountRecord}
 use Rattle.krb_accounts.specs.Settings.{SettingsRecord}
-use Rattle.krb_accounts.specs.declared.policy.Policy.{Policy}
 use Rattle.krb_settings.specs.Fields.{suite_name}
 use Rattle.krb_account_texts.specs.declared.line.Line.{Line}
 use Rattle.krb_account_texts.specs.declared.line.Line.TheVariants as line
@@ -31,20 +30,20 @@ abbrev pub salt_text : Option Bytes → List ℕ
 salt_text None = codes "-"
 salt_text (Some salt) = encode_lower salt
 
--- What the realm's line says of the policy: the word `policy` and `limits-des3` where it limits session keys of triple DES, or nothing.
-abbrev pub policy_text : Policy → List ℕ
-policy_text policy = if policy.limits_des3 then codes "\tpolicy\tlimits-des3" else []
+-- What follows in the realm's line: nothing, or two fields. The first one has the words `limits-des3`, where the policy limits session keys of
+-- triple DES, and `pkinit`, where logins by certificate are answered. The second one has what these are answered by in hexadecimal digits, or
+-- `-`.
+abbrev pub further_text : Bool → Option Bytes → List ℕ
+further_text false None = []
+further_text true None = codes "\tlimits-des3\t-"
+further_text false (Some octets) = codes "\tpkinit\t" ++ encode_lower octets
+further_text true (Some octets) = codes "\tlimits-des3,pkinit\t" ++ encode_lower octets
 
--- If logins by certificate are answered, the word `pkinit`, and what they are answered by in hexadecimal digits.
-abbrev pub pkinit_text : Option Bytes → List ℕ
-pkinit_text None = []
-pkinit_text (Some octets) = codes "\tpkinit\t" ++ encode_lower octets
-
--- The realm's line: the word `realm`, the name, the clock skew and the greatest lifetime in seconds, the policy, and what logins by
--- certificate are answered by.
+-- The realm's line: the word `realm`, the name, the clock skew and the greatest lifetime in seconds, and what follows of policy and logins by
+-- certificate.
 abbrev pub realm_text : Bytes → SettingsRecord → Option Bytes → List ℕ
 realm_text name settings pkinit =
-    codes "realm" ++ (codes "\t" ++ (name ++ (codes "\t" ++ (decimal settings.skew ++ (codes "\t" ++ (decimal settings.lifetime ++ (policy_text settings.policy ++ pkinit_text pkinit)))))))
+    codes "realm" ++ (codes "\t" ++ (name ++ (codes "\t" ++ (decimal settings.skew ++ (codes "\t" ++ (decimal settings.lifetime ++ further_text settings.policy.limits_des3 pkinit))))))
 
 -- The text of a name where a line begins: a backslash (92) precedes a `#` (35), with which a comment would begin.
 abbrev pub guarded : List ℕ → List ℕ

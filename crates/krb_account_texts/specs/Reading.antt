@@ -112,11 +112,6 @@ settings_of skew lifetime =
     if nat_le skew SKEW_LIMIT && (nat_le 1 lifetime && nat_le lifetime LIFETIME_LIMIT) then Ok (record { skew = skew; lifetime = lifetime; policy = NO_POLICY })
     else Err fault.Seconds
 
--- The policy of a word, or none if there is no word.
-unfoldable pub policy_in : Option (List ℕ) → Result Policy LineFault
-policy_in None = Ok NO_POLICY
-policy_in (Some word) = if pointwise nat_eq word (codes "limits-des3") then Ok (record { limits_des3 = true }) else Err fault.Policy
-
 -- The settings with this policy.
 abbrev pub with_policy : Policy → SettingsRecord → SettingsRecord
 with_policy policy settings = record { skew = settings.skew; lifetime = settings.lifetime; policy = policy }
@@ -130,32 +125,29 @@ abbrev pub pkinit_in : Option (List ℕ) → Result (Option Bytes) LineFault
 pkinit_in None = Ok None
 pkinit_in (Some digits) = octets_told fault.Pkinit (decode_of digits) >>= some_pkinit
 
--- The realm's line of these fields, or the first fault in their order.
-unfoldable pub realm_in : List ℕ → List ℕ → List ℕ → Option (List ℕ) → Option (List ℕ) → Result WrittenLine LineFault
+-- The realm's line of these fields and this policy, or the first fault in their order.
+unfoldable pub realm_in : List ℕ → List ℕ → List ℕ → Policy → Option (List ℕ) → Result WrittenLine LineFault
 realm_in name skew lifetime policy digits = do
   own_name ← realm_name_in name
   own_skew ← seconds_in skew
   own_lifetime ← seconds_in lifetime
   settings ← settings_of own_skew own_lifetime
-  own_policy ← policy_in policy
   pkinit ← pkinit_in digits
-  Ok (realm own_name (with_policy own_policy settings) pkinit)
+  Ok (realm own_name (with_policy policy settings) pkinit)
 
--- The realm's line of three fields and one further one, which this word names: `policy` or `pkinit`.
+-- The realm's line of three fields and two further ones: the words of policy and logins by certificate, and what these are answered by.
 abbrev pub realm_with : List ℕ → List ℕ → List ℕ → List ℕ → List ℕ → Result WrittenLine LineFault
-realm_with name skew lifetime further value =
-    if pointwise nat_eq further (codes "policy") then realm_in name skew lifetime (Some value) None
-    else (if pointwise nat_eq further (codes "pkinit") then realm_in name skew lifetime None (Some value) else Err fault.Fields)
+realm_with name skew lifetime words digits =
+    if pointwise nat_eq words (codes "pkinit") then realm_in name skew lifetime NO_POLICY (Some digits)
+    else (if pointwise nat_eq words (codes "limits-des3,pkinit") then realm_in name skew lifetime (record { limits_des3 = true }) (Some digits)
+    else (if pointwise nat_eq words (codes "limits-des3") && pointwise nat_eq digits (codes "-") then realm_in name skew lifetime (record { limits_des3 = true }) None
+    else Err fault.Fields))
 
--- The line of these fields: of five an account's. A realm's has the word `realm` and three fields, behind which the word `policy` and a
--- policy may follow, and then the word `pkinit` and digits.
+-- The line of these fields: of four, the first of which is the word `realm`, of these with two further ones, or of five.
 abbrev pub line_of : List (List ℕ) → Result WrittenLine LineFault
-line_of (word ∷ name ∷ skew ∷ lifetime ∷ []) = if pointwise nat_eq word (codes "realm") then realm_in name skew lifetime None None else Err fault.Fields
-line_of (word ∷ name ∷ skew ∷ lifetime ∷ further ∷ value ∷ []) =
-    if pointwise nat_eq word (codes "realm") then realm_with name skew lifetime further value else Err fault.Fields
-line_of (word ∷ name ∷ skew ∷ lifetime ∷ first ∷ policy ∷ second ∷ digits ∷ []) =
-    if pointwise nat_eq word (codes "realm") && (pointwise nat_eq first (codes "policy") && pointwise nat_eq second (codes "pkinit"))
-    then realm_in name skew lifetime (Some policy) (Some digits) else Err fault.Fields
+line_of (word ∷ name ∷ skew ∷ lifetime ∷ []) = if pointwise nat_eq word (codes "realm") then realm_in name skew lifetime NO_POLICY None else Err fault.Fields
+line_of (word ∷ name ∷ skew ∷ lifetime ∷ words ∷ digits ∷ []) =
+    if pointwise nat_eq word (codes "realm") then realm_with name skew lifetime words digits else Err fault.Fields
 line_of (name ∷ suite ∷ kvno ∷ salt ∷ key ∷ []) = account_in false name suite kvno salt key
 line_of _ = Err fault.Fields
 

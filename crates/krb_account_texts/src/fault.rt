@@ -9,9 +9,9 @@ use thiserror::Error;
 /// Why a line is none of a text of accounts: what was expected. It shows nothing of the line.
 #[derive(Clone, Copy, Debug, PartialEq, Eq, Error)]
 pub enum LineFault {
-    /// The line has another number of fields, or four, six or eight of which the first isn't `realm`, or further ones than `policy` and its
-    /// word, and `pkinit` and its octets, in this order.
-    #[error("expected name, suite, kvno, salt and key, or realm, name, skew and lifetime, and perhaps policy and its word, and pkinit and its octets, with a tab between each two")]
+    /// The line has another number of fields, or four or six of which the first isn't `realm`, or six of which the fifth has other words than
+    /// `limits-des3` and `pkinit`, or no octets where it has `pkinit`.
+    #[error("expected name, suite, kvno, salt and key, or realm, name, skew and lifetime, and perhaps pkinit and its octets, or limits-des3 and -, or limits-des3,pkinit and octets, with a tab between each two")]
     Fields,
     /// Behind the mark of a disabled account, `#disabled` and a tab, the line has another number of fields.
     #[error("expected name, suite, kvno, salt and key behind #disabled, with a tab between each two")]
@@ -40,9 +40,6 @@ pub enum LineFault {
     /// The clock skew or the lifetime is out of its range.
     #[error("realm: expected a skew from 0 to 86400 seconds and a lifetime from 1 to 31536000 seconds")]
     Seconds,
-    /// The policy is none that is known.
-    #[error("policy: expected limits-des3")]
-    Policy,
     /// What logins by certificate are answered by isn't pairs of hexadecimal digits, one or more.
     #[error("pkinit: expected pairs of hexadecimal digits, as certify writes them")]
     Pkinit,

@@ -9,14 +9,12 @@ ghost use Rattle.krb_crypto.specs.Suites.{cipher_suites};
 ghost use Rattle.krb_settings.specs.Fields.{suite_name};
 ghost use Rattle.krb_types.specs.NameReading.{is_ascii};
 ghost use Rattle.krb_account_texts.specs.Lines.{WrittenLine};
-ghost use Rattle.krb_account_texts.specs.Reading.{digits_behind, is_printed, key_in, judged_name, kvno_in, name_in, next_number, number_in, octets_told, pkinit_in, policy_in, realm_name_in, salt_in, seconds_in, settings_of, sized_key, suite_in};
+ghost use Rattle.krb_account_texts.specs.Reading.{digits_behind, is_printed, key_in, judged_name, kvno_in, name_in, next_number, number_in, octets_told, pkinit_in, realm_name_in, salt_in, seconds_in, settings_of, sized_key, suite_in};
 ghost use Rattle.krb_account_texts.specs.Steps.{IsAside};
 
 use crate::fault::LineFault;
 use hex::FromHexError;
-use krb_accounts::{
-    NO_POLICY, Policy, RealmRefusal, Settings, components_of, is_realm_name, realm_name_of,
-};
+use krb_accounts::{RealmRefusal, Settings, components_of, is_realm_name, realm_name_of};
 use krb_crypto::{CipherSuite, Key};
 use krb_settings::suite_name;
 use krb_types::{NameTextFault, components_of_text};
@@ -192,18 +190,6 @@ fn is_printed(name: &[u8]) -> bool
     ensures { result ≡ is_printed name.now }
 {
     name.iter().all(|character| 32 <= *character)
-}
-
-/// The policy of a word, or none if there is no word.
-#[tactic(auto, unfolding(crate::specs::Reading::policy_in))]
-pub(crate) fn policy_of(word: Option<&str>) -> Result<Policy, LineFault>
-    ensures { result ≡ policy_in (option_map (λ word. word.now) word.entry) }
-{
-    match word {
-        None => Ok(NO_POLICY),
-        Some("limits-des3") => Ok(Policy { limits_des3: true }),
-        Some(_) => Err(LineFault::Policy),
-    }
 }
 
 /// What logins by certificate are answered by, in hexadecimal digits, if they are given.

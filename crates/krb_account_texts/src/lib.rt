@@ -2,7 +2,7 @@
 //!
 //! ```text
 //! # comments are kept
-//! realm    EXAMPLE.COM    300    36000    policy    limits-des3    pkinit    3082..
+//! realm    EXAMPLE.COM    300    36000    limits-des3,pkinit    3082..
 //! host/server.example.com    aes256-cts-hmac-sha1-96    1    -    (64 hexadecimal digits)
 //! #disabled    other    aes256-cts-hmac-sha1-96    2    -    (64 hexadecimal digits)
 //! user    aes128-cts-hmac-sha256-128    3    4558..    (32 hexadecimal digits)
@@ -10,8 +10,8 @@
 //!
 //! A tab, and no blank, is between each two fields. An account's are its name as RFC 1964 writes it, the suite, the kvno, the salt or
 //! `-`, and the key. Behind the word `#disabled` they are a disabled account's. The realm's are its name, the clock skew and the greatest
-//! lifetime of a ticket, both in seconds. Where a policy is set, the word `policy` follows, and the policy. Where logins by certificate are
-//! answered, the word `pkinit` follows, and what they are answered by. `specs/Lines` has what each line is written as, and
+//! lifetime of a ticket, both in seconds. Where a policy is set or logins by certificate are answered, a word of each follows, and what these
+//! are answered by. `specs/Lines` has what each line is written as, and
 //! `specs/Reading` how a text is read.
 //!
 //! [`read_lines`] returns the lines that a text writes, or its first fault with the number of its line. [`text_of`] writes lines, and what

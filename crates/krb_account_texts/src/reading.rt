@@ -9,11 +9,11 @@ ghost use Rattle.krb_account_texts.specs.Steps.{IsAside, each_from};
 
 use crate::fault::{LineFault, TextFault};
 use crate::fields::{
-    kvno_of, name_of, pkinit_of, policy_of, read_key, realm_name_of_text, salt_of, seconds_of,
-    settings_of, suite_of,
+    kvno_of, name_of, pkinit_of, read_key, realm_name_of_text, salt_of, seconds_of, settings_of,
+    suite_of,
 };
 use crate::line::{AccountLine, Line, RealmLine, principal_name};
-use krb_accounts::Account;
+use krb_accounts::{Account, NO_POLICY, Policy};
 use krb_types::data_types::PrincipalName;
 use std::alloc::{AllocError, Global};
 
@@ -146,6 +146,44 @@ fn line_of(alloc: Global, fields: &[&str]) -> Result<Line, LineFault>
             };
             plain_realm_of(alloc, start)
         }
+        [word, name, skew, lifetime, words, digits] => {
+            let start = RealmStart {
+                word,
+                name,
+                skew,
+                lifetime,
+            };
+            realm_with(alloc, start, Further { words, digits })
+        }
+        [name, suite, kvno, salt, key] => account_of(alloc, true, name, suite, kvno, salt, key),
+        _ => Err(LineFault::DisabledFields),
+    }
+}
+
+/// Whether a text begins as a comment does.
+pub(crate) fn is_comment(text: &[u8]) -> bool
+    ensures { result ≡ (slice_index text.now 0 == 35) }
+{
+    match text.first() {
+        Some(first) => *first == b'#',
+        None => false,
+    }
+}
+
+// The line of these fields.
+fn line_of(alloc: Global, fields: &[&str]) -> Result<Line, LineFault>
+    ensures { IsAside LineFault.Memory written (line_of (map (λ field. field.now) fields.now)) result }
+{
+    match fields {
+        [word, name, skew, lifetime] => {
+            let start = RealmStart {
+                word,
+                name,
+                skew,
+                lifetime,
+            };
+            plain_realm_of(alloc, start)
+        }
         [word, name, skew, lifetime, further, value] => {
             let start = RealmStart {
                 word,
@@ -196,52 +234,40 @@ struct RealmStart<'a> {
     lifetime: &'a str,
 }
 
-// A further field of a realm's line, behind the word that names it.
+// What follows in a realm's line: the words of policy and logins by certificate, and what these are answered by.
 #[derive(Clone, Copy)]
 struct Further<'a> {
-    word: &'a str,
-    value: &'a str,
+    words: &'a str,
+    digits: &'a str,
 }
 
 // The realm's line of four fields.
 fn plain_realm_of(alloc: Global, start: RealmStart<'_>) -> Result<Line, LineFault>
-    ensures { IsAside LineFault.Memory written (line_of (start.word.now ∷ start.name.now ∷ start.skew.now ∷ start.lifetime.now ∷ [])) result }
+    ensures { IsAside LineFault.Memory written (line_of (start.entry.word.now ∷ start.entry.name.now ∷ start.entry.skew.now ∷ start.entry.lifetime.now ∷ [])) result }
 {
     if start.word == "realm" {
-        return realm_of(alloc, start, None, None);
+        return realm_of(alloc, start, NO_POLICY, None);
     }
     Err(LineFault::Fields)
 }
 
-// The realm's line with one further field.
+// The realm's line with the further fields.
 fn realm_with(alloc: Global, start: RealmStart<'_>, further: Further<'_>) -> Result<Line, LineFault>
     ensures { IsAside LineFault.Memory written
-        (line_of (start.word.now ∷ start.name.now ∷ start.skew.now ∷ start.lifetime.now ∷ further.word.now ∷ further.value.now ∷ [])) result }
+        (line_of (start.entry.word.now ∷ start.entry.name.now ∷ start.entry.skew.now ∷ start.entry.lifetime.now ∷ further.entry.words.now ∷ further.entry.digits.now ∷ [])) result }
 {
     if start.word != "realm" {
         return Err(LineFault::Fields);
     }
-    if further.word == "policy" {
-        return realm_of(alloc, start, Some(further.value), None);
+    if further.words == "pkinit" {
+        return realm_of(alloc, start, NO_POLICY, Some(further.digits));
     }
-    if further.word == "pkinit" {
-        return realm_of(alloc, start, None, Some(further.value));
+    let policy = Policy { limits_des3: true };
+    if further.words == "limits-des3,pkinit" {
+        return realm_of(alloc, start, policy, Some(further.digits));
     }
-    Err(LineFault::Fields)
-}
-
-// The realm's line with both further fields.
-fn realm_with_both(
-    alloc: Global,
-    start: RealmStart<'_>,
-    policy: Further<'_>,
-    pkinit: Further<'_>,
-) -> Result<Line, LineFault>
-    ensures { IsAside LineFault.Memory written
-        (line_of (start.word.now ∷ start.name.now ∷ start.skew.now ∷ start.lifetime.now ∷ policy.word.now ∷ policy.value.now ∷ pkinit.word.now ∷ pkinit.value.now ∷ [])) result }
-{
-    if start.word == "realm" && policy.word == "policy" && pkinit.word == "pkinit" {
-        return realm_of(alloc, start, Some(policy.value), Some(pkinit.value));
+    if further.words == "limits-des3" && further.digits == "-" {
+        return realm_of(alloc, start, policy, None);
     }
     Err(LineFault::Fields)
 }
@@ -250,17 +276,16 @@ fn realm_with_both(
 fn realm_of(
     alloc: Global,
     start: RealmStart<'_>,
-    policy: Option<&str>,
+    policy: Policy,
     digits: Option<&str>,
 ) -> Result<Line, LineFault>
     ensures { IsAside LineFault.Memory written
-        (realm_in start.name.now start.skew.now start.lifetime.now (option_map (λ word. word.now) policy.entry) (option_map (λ digits. digits.now) digits.entry)) result }
+        (realm_in start.entry.name.now start.entry.skew.now start.entry.lifetime.now policy (option_map (λ digits. digits.now) digits.entry)) result }
 {
     let name = realm_name_of_text(alloc, start.name)?;
     let skew = seconds_of(start.skew)?;
     let lifetime = seconds_of(start.lifetime)?;
     let settings = settings_of(skew, lifetime)?;
-    let policy = policy_of(policy)?;
     let pkinit = pkinit_of(alloc, digits)?;
     Ok(Line::Realm(RealmLine {
         name,

@@ -2,11 +2,10 @@
 ghost use Rattle.std.specs.Prelude.{◌≡◌, ◌∷◌, ◌++◌, [], map, string_bytes, IfOk, OnOk};
 ghost use Rattle.std.specs.Option.{option_map};
 ghost use Rattle.krb_types.specs.NameText.{name_text};
-ghost use Rattle.krb_account_texts.specs.Lines.{account_fields, account_text, guarded, line_text, pkinit_text, policy_text, realm_text, salt_text, text_of, written};
+ghost use Rattle.krb_account_texts.specs.Lines.{account_fields, account_text, further_text, guarded, line_text, realm_text, salt_text, text_of, written};
 
 use crate::line::{AccountLine, Line, RealmLine};
 use crate::reading::is_comment;
-use krb_accounts::Policy;
 use krb_settings::suite_name;
 use krb_types::data_types::PrincipalName;
 use picky_asn1::wrapper::OctetStringAsn1;
@@ -48,29 +47,28 @@ fn realm_text(alloc: Global, line: &RealmLine) -> Result<String, AllocError>
     let name = &line.name;
     let skew = line.settings.skew();
     let lifetime = line.settings.lifetime();
-    let policy = policy_text(line.settings.policy());
-    let pkinit = pkinit_text(alloc, &line.pkinit)?;
-    format!(in alloc; "realm\t{name}\t{skew}\t{lifetime}{policy}{pkinit}")
+    let further = further_text(alloc, line.settings.policy().limits_des3, &line.pkinit)?;
+    format!(in alloc; "realm\t{name}\t{skew}\t{lifetime}{further}")
 }
 
-fn policy_text(policy: Policy) -> &'static str
-    ensures { result.now ≡ policy_text policy }
+// What follows in the realm's line.
+fn further_text(
+    alloc: Global,
+    limits_des3: bool,
+    pkinit: &Option<OctetStringAsn1>,
+) -> Result<String, AllocError>
+    ensures { IfOk result (λ text. string_bytes text ≡ further_text limits_des3 pkinit.now) }
 {
-    if policy.limits_des3 {
-        "\tpolicy\tlimits-des3"
-    } else {
-        ""
-    }
-}
-
-fn pkinit_text(alloc: Global, pkinit: &Option<OctetStringAsn1>) -> Result<String, AllocError>
-    ensures { IfOk result (λ text. string_bytes text ≡ pkinit_text pkinit.now) }
-{
-    match pkinit {
-        None => Ok(String::new(alloc)),
-        Some(octets) => {
+    match (pkinit, limits_des3) {
+        (None, false) => Ok(String::new(alloc)),
+        (None, true) => String::from_str(alloc, "\tlimits-des3\t-"),
+        (Some(octets), false) => {
             let digits = hex::encode(alloc, octets.as_bytes())?;
             format!(in alloc; "\tpkinit\t{digits}")
+        }
+        (Some(octets), true) => {
+            let digits = hex::encode(alloc, octets.as_bytes())?;
+            format!(in alloc; "\tlimits-des3,pkinit\t{digits}")
         }
     }
 }
