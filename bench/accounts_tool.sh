@@ -124,7 +124,7 @@ refused_by_disk() {
     status=0
     line=$(echo $key | "$tool" "$@" 2>&1 | grep -v warning) || status=$?
     [ "$(judge "$file" "$* on a full disk")" = old ] || exit 1
-    ! ls -A | grep -q "[.]new$" || { echo "accounts_tool: a new file was left beside $file" >&2; exit 1; }
+    [ -z "$(find . -maxdepth 1 -name ".$file.*.new")" ] || { echo "accounts_tool: a new file was left beside $file" >&2; exit 1; }
     echo "$1: the old file, and: $line"
 }
 

@@ -2,7 +2,7 @@
 
 use crate::arguments::{expected, name_of, options_of};
 use crate::secrets::{KeyInput, SaltedKey, input_of, key_of_password, key_without_password};
-use crate::texts::{account_among, finish_text, lines_of, printed, realm_of};
+use crate::texts::{account_among, finish_text, lines_of, realm_of};
 use crate::warnings::{RealmKey, Stream, is_service, warn_of_account, warn_of_realm};
 use krb_account_texts::{
     AccountLine, EditRefusal, Line, RealmLine, add, can_be_typed, change_key, disable, enable,
@@ -202,7 +202,6 @@ fn key_of_input(
     let realm = realm.name.as_bytes();
     let name = &given.name;
     if is_service(realm, name) {
-        let name = printed(rt.alloc(), name)?;
         return Err(refused(
             rt.alloc(),
             format_args!(
@@ -333,9 +332,6 @@ pub(crate) fn refusal_of(alloc: Global, name: &PrincipalName, refusal: EditRefus
         EditRefusal::Exists
         | EditRefusal::Unknown
         | EditRefusal::KeptAccount
-        | EditRefusal::NumberSpent => match printed(alloc, name) {
-            Ok(name) => refused(alloc, format_args!("{name}: {refusal}")),
-            Err(_) => Stop::Memory,
-        },
+        | EditRefusal::NumberSpent => refused(alloc, format_args!("{name}: {refusal}")),
     }
 }

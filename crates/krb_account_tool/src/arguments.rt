@@ -1,7 +1,7 @@
 //! The arguments of the program.
 
 use krb_account_texts::{LineFault, read_name, suite_named};
-use krb_commands::{Printable, Stop, failed, refused};
+use krb_commands::{Stop, failed, refused};
 use krb_crypto::CipherSuite;
 use krb_types::data_types::PrincipalName;
 use std::alloc::Global;
@@ -98,8 +98,7 @@ pub(crate) fn name_of(alloc: Global, argument: &str) -> Result<PrincipalName, St
         Err(_) => Err(refused(
             alloc,
             format_args!(
-                "{}: expected a name of 1 to 16 components of 1 to 255 ASCII characters, with / between each two, and no realm",
-                Printable(argument.as_bytes())
+                "{argument}: expected a name of 1 to 16 components of 1 to 255 ASCII characters, with / between each two, and no realm"
             ),
         )),
     }

@@ -2,10 +2,10 @@
 
 use crate::accounts::refusal_of;
 use crate::arguments::{expected, name_of};
-use crate::texts::{account_among, lines_of, printed};
+use crate::texts::{account_among, lines_of};
 use krb_account_texts::{AccountLine, EditRefusal, Line, Pattern, RealmLine, salt_text};
 use krb_accounts::Account;
-use krb_commands::{Stop, failed};
+use krb_commands::{Stop, failed, printable_of};
 use krb_settings::suite_name;
 use krb_types::data_types::PrincipalName;
 use std::alloc::{AllocError, Global};
@@ -121,7 +121,7 @@ fn realm_listed(alloc: Global, realm: &RealmLine) -> Result<String, AllocError> 
 }
 
 fn account_listed(alloc: Global, own: &AccountLine) -> Result<String, AllocError> {
-    let name = printed(alloc, &own.name)?;
+    let name = printable_of(alloc, &own.name)?;
     let suite = suite_name(own.account.suite());
     let kvno = own.account.kvno();
     let kind = kind_of(&own.account);
@@ -157,7 +157,7 @@ fn shown(rt: &HostRuntime, path: &str, name: &PrincipalName) -> Result<String, S
 }
 
 fn account_shown(alloc: Global, own: &AccountLine) -> Result<String, AllocError> {
-    let name = printed(alloc, &own.name)?;
+    let name = printable_of(alloc, &own.name)?;
     let suite = suite_name(own.account.suite());
     let kvno = own.account.kvno();
     let kind = kind_of(&own.account);

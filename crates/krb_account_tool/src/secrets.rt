@@ -60,17 +60,23 @@ pub(crate) fn key_without_password(
 // A key of the system's random octets (RFC 3961, section 3, random-to-key): of triple DES it has odd parity and no weak part.
 #[tactic(auto, using(crate::proofs::Seeds::seed_room))]
 fn random_key(rt: &HostRuntime, suite: CipherSuite) -> Result<SaltedKey, Stop> {
+    let octets = random_octets(rt)?;
+    let size = suite.seed_bit_len() / 8;
+    let Ok(key) = Key::of_seed(rt.alloc(), suite, &octets[..size]) else {
+        return Err(Stop::Memory);
+    };
+    Ok(SaltedKey { key, salt: None })
+}
+
+// The system's random octets, as many as the largest seed has.
+fn random_octets(rt: &HostRuntime) -> Result<[u8; SEED_ROOM], Stop> {
     let mut octets = [0; SEED_ROOM];
-    if let Err(fault) = rt.fill_bytes(&mut octets) {
-        return Err(failed(
+    match rt.fill_bytes(&mut octets) {
+        Ok(()) => Ok(octets),
+        Err(fault) => Err(failed(
             rt.alloc(),
             format_args!("the system's random octets can't be read: {fault}"),
-        ));
-    }
-    let size = suite.seed_bit_len() / 8;
-    match Key::of_seed(rt.alloc(), suite, &octets[..size]) {
-        Ok(key) => Ok(SaltedKey { key, salt: None }),
-        Err(_) => Err(Stop::Memory),
+        )),
     }
 }
 

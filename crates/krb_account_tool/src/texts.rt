@@ -4,10 +4,9 @@ use krb_account_texts::{
     AccountLine, Line, RealmLine, TextFault, check_order, place_of, read_lines, realm_among,
     text_of,
 };
-use krb_commands::{FileKind, NewFile, Printable, Stop, octets_of, refused};
-use krb_types::data_types::PrincipalName;
+use krb_commands::{FileKind, NewFile, Stop, octets_of, refused};
 use picky_asn1::wrapper::GeneralStringAsn1;
-use std::alloc::{AllocError, Global};
+use std::alloc::Global;
 
 /// The lines of the text in a file.
 pub(crate) fn lines_of(rt: &HostRuntime, path: &str) -> Result<Vec<Line>, Stop> {
@@ -76,13 +75,6 @@ pub(crate) fn account_among<'a>(
         Line::Account(own) => Some(own),
         _ => None,
     }
-}
-
-/// The text of a name, as a line shows it: what isn't printable is escaped.
-pub(crate) fn printed(alloc: Global, name: &PrincipalName) -> Result<String, AllocError> {
-    let text = format!(in alloc; "{name}")?;
-    let text = Printable(text.as_bytes());
-    format!(in alloc; "{text}")
 }
 
 /// Puts the octets into the place of the file that is made, or nothing if they were refused.

@@ -1,6 +1,5 @@
 //! What `make` and `warnings` warn of: likely slips in each account, and keys that two accounts share.
 
-use crate::texts::printed;
 use crate::warnings::{RealmKey, Stream, is_service, say, warn_of_account, warn_of_realm};
 use cdb::Record;
 use krb_account_files::ACCOUNT_HEAD;
@@ -10,6 +9,7 @@ use krb_commands::Stop;
 use krb_crypto::CipherSuite;
 use krb_settings::Secret;
 use krb_settings_check::Warning;
+use krb_types::data_types::PrincipalName;
 use std::alloc::{AllocError, Global};
 use std::cmp::Ordering;
 
@@ -214,18 +214,15 @@ fn key_in(content: &[u8]) -> &[u8] {
     }
 }
 
-// The name of the account whose record has this index, as a line shows it.
-fn name_of(alloc: Global, records: &[Record], index: u32) -> Result<String, Stop> {
+// The name of the account whose record has this index.
+fn name_of(alloc: Global, records: &[Record], index: u32) -> Result<PrincipalName, Stop> {
     let block = match records.get(index as usize) {
         Some(record) => record.key.as_slice(),
         None => &[],
     };
     let components = components_in(alloc, block)?;
     match components_of(alloc, &components) {
-        Ok(name) => {
-            let name = principal_name(alloc, name)?;
-            Ok(printed(alloc, &name)?)
-        }
+        Ok(name) => Ok(principal_name(alloc, name)?),
         Err(_) => Err(Stop::Memory),
     }
 }

@@ -1,7 +1,7 @@
 //! What is likely a slip in an account, by the rules for settings files.
 
 use crate::secrets::octets_of;
-use crate::texts::{account_among, printed};
+use crate::texts::account_among;
 use krb_account_texts::{Line, RealmLine, is_krbtgt};
 use krb_commands::{Stop, print_line, printable_of};
 use krb_crypto::CipherSuite;
@@ -115,7 +115,6 @@ pub(crate) fn warn_of_account(
     secret: Secret,
 ) -> Result<(), Stop> {
     let settings = settings_of_account(rt.alloc(), realm, name, suite, secret)?;
-    let name = printed(rt.alloc(), name)?;
     warn_by(rt, stream, &settings, OF_ACCOUNT, format_args!("{name}: "))
 }
 

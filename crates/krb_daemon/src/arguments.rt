@@ -1,7 +1,7 @@
 //! The program's arguments.
 ghost use Rattle.std.specs.Prelude.{◌≡◌, map, string_bytes};
 ghost use Rattle.std.specs.Option.{option_map};
-ghost use Rattle.krb_daemon.specs.Commands.{asked, command_in, command_named, served};
+ghost use Rattle.krb_daemon.specs.Commands.{asked, command_in, command_named, option_in, options_in, served, served_with};
 
 /// What the arguments ask for.
 #[derive(Clone, Copy, Debug, PartialEq, Eq)]
@@ -34,18 +34,71 @@ pub fn command_of<'a>(arguments: &'a [String]) -> Option<Command<'a>>
 {
     match arguments {
         [word] => command_named(word),
-        [database, words] => served_of(database, words, false, false),
-        [database, words, option] if option.as_str() == "--log" => {
-            served_of(database, words, true, false)
-        }
-        [database, words, option] if option.as_str() == "--fixed-words" => {
-            served_of(database, words, false, true)
-        }
-        [database, words, log, fixed]
-            if log.as_str() == "--log" && fixed.as_str() == "--fixed-words" => {
-            served_of(database, words, true, true)
-        }
+        [database, words] => served_of(database, words, Options::NONE),
+        [database, words, option] => served_with(database, words, option_of(option)),
+        [database, words, log, fixed] => served_with(database, words, options_of(log, fixed)),
         _ => None,
+    }
+}
+
+// What the options behind both paths say.
+#[derive(Clone, Copy)]
+struct Options {
+    is_logged: bool,
+    may_be_fixed: bool,
+}
+
+impl Options {
+    // What is so without options.
+    const NONE: Options = Options {
+        is_logged: false,
+        may_be_fixed: false,
+    };
+}
+
+// Returns what one option says, if it is one.
+fn option_of(option: &str) -> Option<Options>
+    ensures { result ≡ option_in option.now }
+{
+    if option == "--log" {
+        return Some(Options {
+            is_logged: true,
+            may_be_fixed: false,
+        });
+    }
+    if option == "--fixed-words" {
+        return Some(Options {
+            is_logged: false,
+            may_be_fixed: true,
+        });
+    }
+    None
+}
+
+// Returns what both options say, if they are these in their order.
+fn options_of(log: &str, fixed: &str) -> Option<Options>
+    ensures { result ≡ options_in log.now fixed.now }
+{
+    if log == "--log" && fixed == "--fixed-words" {
+        return Some(Options {
+            is_logged: true,
+            may_be_fixed: true,
+        });
+    }
+    None
+}
+
+// Returns the command to serve these files with these options, if there are any.
+fn served_with<'a>(
+    database: &'a str,
+    words: &'a str,
+    options: Option<Options>,
+) -> Option<Command<'a>>
+    ensures { option_map asked result ≡ served_with database.now words.now options }
+{
+    match options {
+        Some(options) => served_of(database, words, options),
+        None => None,
     }
 }
 
@@ -63,13 +116,8 @@ fn command_named<'a>(word: &str) -> Option<Command<'a>>
 }
 
 // Returns the command to serve these files, if both words are paths.
-fn served_of<'a>(
-    database: &'a str,
-    words: &'a str,
-    is_logged: bool,
-    may_be_fixed: bool,
-) -> Option<Command<'a>>
-    ensures { option_map asked result ≡ served database.now words.now is_logged may_be_fixed }
+fn served_of<'a>(database: &'a str, words: &'a str, options: Options) -> Option<Command<'a>>
+    ensures { option_map asked result ≡ served database.now words.now options }
 {
     if database.as_bytes().starts_with(b"--") || words.as_bytes().starts_with(b"--") {
         return None;
@@ -77,7 +125,7 @@ fn served_of<'a>(
     Some(Command::Serve(Served {
         database,
         words,
-        is_logged,
-        may_be_fixed,
+        is_logged: options.is_logged,
+        may_be_fixed: options.may_be_fixed,
     }))
 }

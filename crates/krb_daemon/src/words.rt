@@ -1,5 +1,6 @@
 //! The file of random octets.
-ghost use Rattle.std.specs.Prelude.{◌≡◌};
+ghost use Rattle.std.specs.Prelude.{◌≡◌, ◌==◌};
+ghost use Rattle.std.specs.List.{list_all};
 ghost use Rattle.krb_daemon.specs.Words.{is_repeated};
 
 use crate::arguments::Served;
@@ -57,7 +58,14 @@ fn is_repeated(octets: &[u8]) -> bool
     ensures { result ≡ is_repeated octets.now }
 {
     match octets.split_first() {
-        Some((first, rest)) => rest.iter().all(|octet| octet == first),
+        Some((first, rest)) => are_all(rest, *first),
         None => false,
     }
+}
+
+// Whether all octets are this one.
+fn are_all(octets: &[u8], octet: u8) -> bool
+    ensures { result ≡ list_all (λ other. other == octet) octets.now }
+{
+    octets.iter().all(|other| *other == octet)
 }
