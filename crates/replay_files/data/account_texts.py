@@ -72,7 +72,7 @@ for _ in range(60):
 
 KEY = "00" * 16
 ONE = "a\taes128-cts-hmac-sha1-96\t1\t-\t" + KEY + "\n"
-FIELDS = "expected name, suite, kvno, salt and key, or realm, name, skew and lifetime, and perhaps pkinit and its octets, with a tab between each two"
+FIELDS = "expected name, suite, kvno, salt and key, or realm, name, skew and lifetime, and perhaps pkinit and its octets, or limits-des3 and -, or limits-des3,pkinit and octets, with a tab between each two"
 NAME = "name: expected 1 to 16 components of 1 to 255 ASCII characters, with / between each two"
 SUITE = "suite: expected one of " + ", ".join(SUITES)
 KVNO = "kvno: expected a whole number from 1 to 4294967295"
@@ -165,6 +165,20 @@ for octets in b"\0", b"\x30\x82", OCTETS:
     row("certify", fold(certified + ONE), "-", fold(HEAD + ONE))
     row("key", fold(certified + ONE), "a", "aes128-cts-hmac-sha1-96", "11" * 16, fold(certified + ONE.replace("\t1\t", "\t2\t").replace(KEY, "11" * 16)))
     row("remove", fold(certified + ONE), "a", fold(certified))
+
+# A policy that limits triple DES, beside what logins by certificate are answered by.
+LIMITED = HEAD.replace("\n", "\tlimits-des3\t-\n")
+BOTH = HEAD.replace("\n", "\tlimits-des3,pkinit\t00ff\n")
+row("read", fold(LIMITED + ONE), fold(LIMITED + ONE))
+row("read", fold(BOTH.replace("00ff", "00FF") + ONE), fold(BOTH + ONE))
+row("certify", fold(LIMITED + ONE), "00ff", fold(BOTH + ONE))
+row("certify", fold(BOTH + ONE), "-", fold(LIMITED + ONE))
+row("remove", fold(LIMITED + ONE), "a", fold(LIMITED))
+for further, fault in [
+    ("limits-des3\t00", FIELDS), ("limits-des3\t", FIELDS), ("limits-des3", NAME_OR_SUITE), ("limits-des3,pkinit\t-", PKINIT), ("pkinit,limits-des3\t00", FIELDS),
+    ("limits-des3\t-\tpkinit\t00", FIELDS), ("limits\t-", FIELDS),
+]:
+    row("read", fold(HEAD.replace("\n", f"\t{further}\n")), "1: " + fault)
 
 with open("account_texts.txt", "w", encoding="utf-8") as out:
     out.write("".join(row + "\n" for row in rows))
