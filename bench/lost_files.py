@@ -284,7 +284,7 @@ def links(tries):
 
 
 def names_taken(tries):
-    """Names of another user in a shared folder, and what a run that was cut off left."""
+    """Names of another user in a sticky folder, and what a run that was cut off left."""
     tries.fresh()
     for name in ("accounts.new", "accounts.cdb.new", ".accounts.new"):
         put(name, b"")
@@ -294,26 +294,26 @@ def names_taken(tries):
         print("not tried: files of another user in a sticky folder, which takes root")
         return
     tries.fresh()
-    os.mkdir("shared")
-    os.chmod("shared", 0o1777)
+    os.mkdir("sticky")
+    os.chmod("sticky", 0o1777)
     for name in ("accounts.new", "accounts.cdb.new"):
-        put(f"shared/{name}", b"of root")
-    shutil.copy("accounts", "shared/accounts")
-    os.chown("shared/accounts", NOBODY, NOBODY)
+        put(f"sticky/{name}", b"of root")
+    shutil.copy("accounts", "sticky/accounts")
+    os.chown("sticky/accounts", NOBODY, NOBODY)
     for name in (os.path.dirname(tries.work), tries.work):
         os.chmod(name, 0o755)
     as_nobody = ["setpriv", f"--reuid={NOBODY}", "--clear-groups"]
     tries.done(
         "add beside a file of another user in a sticky folder",
-        [*as_nobody, ACCOUNTS, "add", "-k", "shared/accounts", "further"],
-        lambda: None if b"\nfurther\t" in content("shared/accounts") and content("shared/accounts.new") == b"of root" else "not added",
+        [*as_nobody, ACCOUNTS, "add", "-k", "sticky/accounts", "further"],
+        lambda: None if b"\nfurther\t" in content("sticky/accounts") and content("sticky/accounts.new") == b"of root" else "not added",
     )
     # Another user's file stays, although the folder is everyone's.
-    shutil.copy("accounts", "shared/others")
-    os.chmod("shared/others", 0o644)
+    shutil.copy("accounts", "sticky/others")
+    os.chmod("sticky/others", 0o644)
     before = seen(tries.work)
-    ended = run([*as_nobody, ACCOUNTS, "add", "-k", "shared/others", "further"])
-    tries.tell("add to another user's text in a sticky folder", judged(ended, 2, "shared/others can't be written: ") or changed(before, seen(tries.work)))
+    ended = run([*as_nobody, ACCOUNTS, "add", "-k", "sticky/others", "further"])
+    tries.tell("add to another user's text in a sticky folder", judged(ended, 2, "sticky/others can't be written: ") or changed(before, seen(tries.work)))
 
 
 def at_once(tries):
