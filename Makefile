@@ -47,6 +47,7 @@ faults: kit-there ## refuse memory to the built programs, request by request, se
 	bench/refused_growths.sh
 	bench/hostile.sh
 	bench/login_faults.sh
+	bench/downgrades.sh
 
 settings: kit-there ## say what is wrong with a settings file, without proof: make settings FILE=examples/settings.toml
 	@test -f "$$FILE" || { echo "make: name a file, as in make settings FILE=examples/settings.toml" >&2; exit 2; }
