@@ -77,6 +77,9 @@ def block(name):
     return b"".join(bytes(octet + 1 for octet in component) + b"\0" for component in name)
 
 
+LIMITS_DES3 = 1  # the policy of a realm that limits session keys of triple DES
+
+
 def account_record(account):
     suite, kvno, key, salt = account
     return bytes([1, suite]) + number(kvno) + (b"\0" + key if salt is None else b"\1" + key + salt)
@@ -85,7 +88,7 @@ def account_record(account):
 def realm_record(realm):
     name, skew, lifetime, pkinit = realm
     octets = pkinit or b""
-    return b"\1" + number(skew) + number(lifetime) + number(len(octets)) + number(0) + octets + name
+    return b"\1" + number(skew) + number(lifetime) + number(len(octets)) + number(0) + octets + name  # with no policy
 
 
 def account_of(record):
@@ -101,13 +104,13 @@ def account_of(record):
 def realm_of(record):
     if len(record) < 17 or record[0] != 1:
         raise Damaged
-    skew, lifetime, size, zeros = (int.from_bytes(record[at : at + 4], "little") for at in (1, 5, 9, 13))
-    if zeros or len(record) < 17 + size or skew > 86400 or not 1 <= lifetime <= 31536000:
+    skew, lifetime, size, policy = (int.from_bytes(record[at : at + 4], "little") for at in (1, 5, 9, 13))
+    if policy > LIMITS_DES3 or len(record) < 17 + size or skew > 86400 or not 1 <= lifetime <= 31536000:
         raise Damaged
     pkinit, name = record[17 : 17 + size], record[17 + size :]
     if not 1 <= len(name) <= 255 or any(octet > 127 for octet in name):
         raise Damaged
-    return name, skew, lifetime, pkinit or None
+    return name, skew, lifetime, pkinit or None, policy
 
 
 def data_of(file, key):
@@ -138,8 +141,8 @@ def got(file, name):
 
 
 def realm_words(realm):
-    name, skew, lifetime, pkinit = realm
-    return f"{word(name)} {skew} {lifetime} {'none' if pkinit is None else word(pkinit)}"
+    name, skew, lifetime, pkinit, *policy = realm
+    return f"{word(name)} {skew} {lifetime} {'none' if pkinit is None else word(pkinit)}" + (" limits-des3" if policy == [LIMITS_DES3] else "")
 
 
 def realm_got(file):
@@ -251,7 +254,7 @@ def record_damages(file, realm, accounts):
     yield from ((at + 5, number(lifetime)) for lifetime in (0, 1, 31536000, 31536001, 2**32 - 1))
     size = len(realm[3] or b"")
     yield from ((at + 9, number(count)) for count in (0, 1, size - 1, size + 1, size + len(realm[0]), size + len(realm[0]) + 1, 2**32 - 1) if count >= 0)
-    yield at + 13, number(1)
+    yield from ((at + 13, number(policy)) for policy in (LIMITS_DES3, 2, 256, 2**32 - 1))
     yield from ((at + 17 + size, bytes([octet])) for octet in (0, 127, 128, 255))
     yield from ((at - 5, number(count)) for count in (0, 16, 17, 18, 17 + size, 17 + size + 1, 17 + size + 256, ROOM + 1))
 

@@ -66,7 +66,12 @@ fn words_of_realm(alloc: Global, realm: &RealmParameters) -> anyhow::Result<Stri
     let skew = realm.settings.skew();
     let lifetime = realm.settings.lifetime();
     let pkinit = octets_word(alloc, realm.pkinit.as_ref())?;
-    Ok(format!(in alloc; "{name} {skew} {lifetime} {pkinit}")?)
+    let policy = if realm.settings.policy().limits_des3 {
+        " limits-des3"
+    } else {
+        ""
+    };
+    Ok(format!(in alloc; "{name} {skew} {lifetime} {pkinit}{policy}")?)
 }
 
 /// Returns the words for the account that a file says.
