@@ -60,8 +60,8 @@ def made():
     for words in (
         [ACCOUNTS, "create", "accounts", "EXAMPLE.COM"],
         [ACCOUNTS, "add", "-k", "accounts", "user"],
-        [ACCOUNTS, "add", "-k", "accounts", "host/server.example.com"],
         [ACCOUNTS, "make", "accounts", "accounts.cdb"],
+        [ACCOUNTS, "add", "-k", "accounts", "host/server.example.com"],
         [ACCOUNTS, "keytab", "accounts", "server.keytab", "host/server.example.com"],
     ):
         status, lines, _ = run(words)
@@ -96,10 +96,10 @@ def made():
 
 
 def seen(folder):
-    """Each file of a folder: its kind, mode, device, and what it holds or names."""
+    """Each file of a folder: its kind, mode, device, and what it holds or names. New files of runs that go on are left out."""
     found = {}
     for path, folders, files in os.walk(folder):
-        for name in folders + files:
+        for name in folders + [name for name in files if not re.fullmatch(r"\..*\.[a-z2-7]{8}\.new", name)]:
             whole = os.path.join(path, name)
             it = os.lstat(whole)
             held = None
@@ -164,7 +164,7 @@ def of_kind(path, front):
 
 def own_text(tries):
     """A command's own files, and files of another kind."""
-    read = "is what the command reads"
+    read = ", which the command reads: expected another file to write"
     other = lambda kind: f"is there, and is no {kind}: expected a {kind}, or no such file"
     text, database, keytab, cache = "text of accounts", "database", "keytab", "credential cache"
     for path in ("accounts", "./accounts", "hard", OF_LINK, "a/further", "a/../accounts"):
@@ -184,7 +184,7 @@ def own_text(tries):
     for path in ("accounts", "accounts.cdb", "server.keytab", "cache", "notes", "hard", OF_LINK, "a/keytab"):
         tries.refused([ACCOUNTS, "create", path, "EXAMPLE.COM"], 1, "is there: expected no such file")
         tries.refused([ACCOUNTS, "import", "settings.toml", path], 1, "is there: expected no such file")
-        tries.refused([KEYTAB, "copy", "server.keytab", path], 1, "is there: expected no such file|is what the command reads")
+        tries.refused([KEYTAB, "copy", "server.keytab", path], 1, "is there: expected no such file|, which the command reads")
     tries.refused([ACCOUNTS, "make", "accounts", "other.cdb"], 1, "other.cdb is there, and has no realm: expected a database, or no such file")
     tries.refused([ACCOUNTS, "import", "settings.toml", "settings.toml"], 1, read)
     tries.refused([KEYTAB, "copy", "server.keytab", "server.keytab"], 1, read)
@@ -271,16 +271,17 @@ def links(tries):
         else "a link is lost, or the text isn't changed",
     )
     tries.fresh()
+    old, is_made = content("accounts.cdb"), lambda path: run([ACCOUNTS, "check", "accounts", path])[0] == 0
+    tries.done("make", [ACCOUNTS, "make", "accounts", "accounts.cdb"], lambda: None if is_made("accounts.cdb") and content("accounts.cdb") != old else "not made")
     tries.done(
         "make through a link to nothing",
         [ACCOUNTS, "make", "accounts", "a/none_yet"],
-        lambda: None if os.readlink("a/none_yet") == "none" and content("a/none") == content("accounts.cdb") else "the link is lost, or there is no database",
+        lambda: None if os.readlink("a/none_yet") == "none" and is_made("a/none") else "the link is lost, or there is no database",
     )
-    tries.fresh()
     put("empty", b"")
-    tries.done("make over an empty file", [ACCOUNTS, "make", "accounts", "empty"], lambda: None if content("empty") == content("accounts.cdb") else "no database")
-    put("empty2", b"")
-    tries.done("keytab over an empty file", [ACCOUNTS, "keytab", "accounts", "empty2", "user"], lambda: of_kind("empty2", b"\5\2"))
+    tries.done("make over an empty file", [ACCOUNTS, "make", "accounts", "empty"], lambda: None if is_made("empty") else "no database")
+    put("second", b"")
+    tries.done("keytab over an empty file", [ACCOUNTS, "keytab", "accounts", "second", "user"], lambda: of_kind("second", b"\5\2"))
 
 
 def names_taken(tries):
@@ -428,13 +429,19 @@ def keytab_entry(realm, components, key, etype=18):
 
 
 def shown(tries):
-    """Names that hold escape sequences, line feeds and octets over 126."""
+    """Names that hold escape sequences, line feeds and the octet 127."""
     tries.fresh()
-    hostile = b"host\x1b[2J\r\n\x9b31m\x7f\xc3\xa9"
+    hostile = b"host\x1b[2J\r\n31m\x7f"
     put("hostile.keytab", b"\5\2" + keytab_entry(b"EXAMPLE\x1b.COM", [hostile, b"a/b@c\\d"], b"k" * 32))
     status, lines, told = run([KEYTAB, "list", "hostile.keytab"])
-    wanted = b"host\\x1b[2J\\x0d\\n\\x9b31m\\x7f\\xc3\\xa9/a\\/b\\@c\\\\d@EXAMPLE\\x1b.COM"
+    wanted = b"host\\x1b[2J\\x0d\\n31m\\x7f/a\\/b\\@c\\\\d@EXAMPLE\\x1b.COM"
     tries.tell("krb_keytab list of a hostile name", None if status == 0 and wanted in told and not re.search(rb"[^\n -~]", told) and told.count(b"\n") == 1 else repr(told))
+    text = content("accounts") + b"v\x1b[2Jw\taes256-cts-hmac-sha1-96\t1\t-\t" + KEY
+    put("hostile", text)
+    status, lines, told = run([ACCOUNTS, "list", "hostile"])
+    tries.tell("krb_accounts list of a hostile name", None if status == 0 and b"\nv\\x1b[2Jw\t" in told and b"\x1b" not in told else repr(told))
+    ended = subprocess.run([ACCOUNTS, "make", "hostile", "hostile.cdb"], capture_output=True, timeout=SECONDS)
+    tries.tell("warnings of a hostile name", None if b"v\\x1b[2Jw" in ended.stderr and b"\x1b" not in ended.stderr else repr(ended.stderr))
     name = "a\x1b[2Jb"
     for words, front in (
         ([KEYTAB, "list", name], "krb_keytab: a\\x1b[2Jb can't be read"),

@@ -76,7 +76,7 @@ fn replaceable(
             return Err(refused(
                 rt.alloc(),
                 format_args!(
-                    "{path} is what the command reads as {other}: expected another file to write"
+                    "{path} is the file {other}, which the command reads: expected another file to write"
                 ),
             ));
         }
