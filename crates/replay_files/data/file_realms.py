@@ -4,11 +4,13 @@ realm, and with the entry of the log.
 
 The replies are those that an independent implementation of RFC 4120's rules gave (replay_realm/data/kdc_exchanges.txt): of each reason the
 first rows. Keys of passwords are derived here by RFC 3962 and RFC 3961 over Python's cryptography. Entries are read here off the messages'
-DER. The databases are made by the independent writer databases.py.
+DER (forms.py), with what opens under the realm's keys, and their reasons agree with those of that implementation. The databases are made
+by the independent writer databases.py.
 
 usage: python3 file_realms.py        in this folder
 """
 import hashlib
+import hmac
 import os
 import sys
 
@@ -16,11 +18,13 @@ from cryptography.hazmat.decrepit.ciphers.algorithms import TripleDES
 from cryptography.hazmat.primitives.ciphers import Cipher, algorithms, modes
 
 sys.dont_write_bytecode = True
-import databases
-from listings import der, elements, etypes_of, listing
-
 HERE = os.path.dirname(os.path.abspath(__file__))
 CRATES = os.path.join(HERE, "..", "..")
+sys.path.append(os.path.join(CRATES, "replay_services", "data"))
+import databases
+import forms
+from listings import der, elements, etypes_of, listing
+from tokens import KEY_SIZES, SUITES
 
 
 # ---- Keys of passwords ------------------------------------------------------------------------------------------------------
@@ -97,6 +101,49 @@ ACCOUNTS = [
 ]
 
 
+# ---- Sealed data ------------------------------------------------------------------------------------------------------------
+
+# The key usages (RFC 4120, section 7.5.1).
+TIMESTAMP, TICKET, AUTHENTICATOR = 1, 2, 7
+
+
+def des3_derived(key, usage, purpose):
+    """DK for a key usage (RFC 3961, section 5.3)."""
+    constant = folded(usage.to_bytes(4, "big") + bytes([purpose]), 8)
+    return des3_key_of(derived(TripleDES(key), constant, 21))
+
+
+def des3_decrypted(key, usage, sealed):
+    """The text with its padding, without its confounder (RFC 3961, sections 5.3 and 6.3), or None."""
+    cipher, code = sealed[:-20], sealed[-20:]
+    if not cipher or len(cipher) % 8:
+        return None
+    step = Cipher(TripleDES(des3_derived(key, usage, 0xAA)), modes.CBC(bytes(8))).decryptor()
+    text = step.update(cipher) + step.finalize()
+    return text[8:] if hmac.digest(des3_derived(key, usage, 0x55), text, "sha1") == code else None
+
+
+def opened(suite, key, usage, sealed, form):
+    """The value of the form that this EncryptedData is sealed of, or None. Triple DES leaves fewer than eight zeros behind it."""
+    if sealed[0] != suite:
+        return None
+    decrypt, most = (des3_decrypted, 8) if suite == 16 else (SUITES[suite].decrypt, 1)
+    text = decrypt(key, usage, sealed[2]) or b""
+    ends = (end for end in range(len(text), len(text) - most, -1) if end >= 0 and not any(text[end:]))
+    return next((value for value in (forms.one(form, text[:end]) for end in ends) if value is not None), None)
+
+
+def is_of_suite(key):
+    """An EncryptionKey has type and length of an encryption type (RFC 3961, section 6.3; RFC 3962, section 6; RFC 8009, section 5)."""
+    return KEY_SIZES.get(key[0]) == len(key[1])
+
+
+def key_in(accounts, *components):
+    """Suite and key of the account of this name, or None."""
+    record = dict(accounts).get(key_of(*components))
+    return record and (record[1], record[7 : 7 + KEY_SIZES[record[1]]])
+
+
 # ---- Entries of the log -----------------------------------------------------------------------------------------------------
 
 def fields(octets):
@@ -114,10 +161,17 @@ def text(octets):
     return "".join(marks.get(o) or (chr(o) if 33 <= o <= 126 else f"\\x{o:02x}") for o in octets)
 
 
+def components_of(field):
+    return [component for _, component in elements(content(fields(field)[1]))]
+
+
+def shown(components, realm):
+    told = "/".join(text(component) for component in components) + "@" + text(realm)
+    return told if len(told) <= 512 else "(long)"
+
+
 def name(field, realm):
-    components = elements(content(fields(field)[1]))
-    shown = "/".join(text(component) for _, component in components) + "@" + text(content(realm))
-    return shown if len(shown) <= 512 else "(long)"
+    return shown(components_of(field), content(realm))
 
 
 def number(field):
@@ -134,22 +188,33 @@ ERRORS = {
 }
 
 
-def means(request):
-    """How the client of an AS request authenticates itself: by PA-PK-AS-REQ (16), else by PA-ENC-TIMESTAMP (2)."""
+def padata_of(request, kind):
+    """The value of the first padata of this type, or None (RFC 4120, section 5.2.7)."""
     padata = fields(content(request)).get(3, b"\x30\0")
-    types = [number(fields(der(0x30, one))[1]) for _, one in elements(content(padata))]
-    return "pkinit" if 16 in types else "password" if 2 in types else "none"
+    found = (fields(der(0x30, one)) for _, one in elements(content(padata)))
+    return next((content(one[2]) for one in found if number(one[1]) == kind), None)
 
 
-def entry(request, reply, is_request=True):
+def means(request):
+    """How the client of a request authenticates itself: by its ticket, by PA-PK-AS-REQ (16), else by PA-ENC-TIMESTAMP (2)."""
+    if request[0] == 0x6C:
+        return "ticket"
+    by_certificate, by_key = (padata_of(request, kind) is not None for kind in (16, 2))
+    return "pkinit" if by_certificate else "password" if by_key else "none"
+
+
+def entry(request, reply, is_request=True, accounts=ACCOUNTS):
+    """The entry of a request to the realm with these accounts."""
     if reply == "Unreadable":
         return "- - - no-request by=-"
     if not is_request:
         return "- - - no-accounts by=-"
-    return f"{names_and_answer(request, reply)} by={means(request) if request[0] == 0x6A else 'ticket'}"
+    told = f"{names_and_answer(request, reply, accounts)} by={means(request)}"
+    reason = reason_of(request, reply, accounts)
+    return f'{told} reason="{reason}"' if reason else told
 
 
-def names_and_answer(request, reply):
+def names_and_answer(request, reply, accounts=ACCOUNTS):
     exchange = {0x6A: "AS", 0x6C: "TGS"}[request[0]]
     body = fields(fields(content(request))[4])
     client = name(body[1], body[2]) if 1 in body else "-"
@@ -158,30 +223,174 @@ def names_and_answer(request, reply):
         return f"{exchange} {client} {service} no-accounts"
     told = fields(content(reply))
     if reply[0] == 0x7E:
-        return f"{exchange} {client} {service} error={ERRORS[number(told[6])]}"
+        return f"{exchange} {ticket_client(request, accounts) or client} {service} error={ERRORS[number(told[6])]}"
     ticket = number(fields(fields(content(told[5]))[3])[0])
     return f"{exchange} {name(told[4], told[3])} {service} ticket={ticket} reply={number(fields(told[6])[0])}"
 
 
+def ap_req_of(request):
+    """The AP-REQ that the first PA-TGS-REQ (1) is the one encoding of, or None (RFC 4120, section 5.2.7.1)."""
+    value = padata_of(request, 1)
+    return None if value is None else forms.one(forms.AP_REQ, value)
+
+
+def ticket_part(request, accounts):
+    """The EncTicketPart that opens under the key of krbtgt, or None. Nothing else of ticket and AP-REQ matters."""
+    ap_req, krbtgt = ap_req_of(request), key_in(accounts, b"krbtgt", b"R")
+    return opened(*krbtgt, TICKET, ap_req[3][3], forms.TICKET_PART) if ap_req and krbtgt else None
+
+
+def ticket_client(request, accounts):
+    """The client of the ticket that a TGS request presents, or None where that doesn't open."""
+    part = ticket_part(request, accounts) if request[0] == 0x6C else None
+    return part and shown(part[3][1], part[2])
+
+
+# ---- Reasons of errors 24 and 31 ----------------------------------------------------------------------------------------------
+
+def reason_of(request, reply, accounts):
+    """Why the request is refused with error 24 of an AS request, or 31 of a TGS request (RFC 4120, section 7.5.9); else None."""
+    code = number(fields(content(reply))[6]) if reply != "Accounts" and reply[0] == 0x7E else None
+    if (request[0], code) == (0x6C, 31):
+        return ticket_reason(request, accounts)
+    if (request[0], code) != (0x6A, 24):
+        return None
+    value = padata_of(request, 16)
+    return timestamp_reason(request, accounts) if value is None else certificate_reason(value, fields(content(request))[4])
+
+
+def timestamp_reason(request, accounts):
+    """RFC 4120, section 5.2.7.2. A missing pausec is 0."""
+    sealed = forms.one(forms.ENCRYPTED, padata_of(request, 2))
+    if sealed is None:
+        return "PA-ENC-TIMESTAMP: not the one DER encoding of an EncryptedData"
+    body = fields(fields(content(request))[4])
+    suite, key = key_in(accounts, *components_of(body[1]))
+    if sealed[0] != suite:
+        return "PA-ENC-TIMESTAMP: etype isn't that of the client's key"
+    timestamp = opened(suite, key, TIMESTAMP, sealed, forms.TIMESTAMP)
+    if timestamp is None:
+        return "PA-ENC-TIMESTAMP: doesn't open under the client's key"
+    assert not 0 <= timestamp.get(1, 0) <= 999999
+    return "PA-ENC-TIMESTAMP: pausec isn't from 0 to 999999"
+
+
+def ticket_reason(request, accounts):
+    """RFC 4120, section 3.2.3."""
+    part = ticket_part(request, accounts)
+    if part is None:
+        return "ticket: doesn't open under the key of krbtgt"
+    if not is_of_suite(part[1]):
+        return "ticket: session key is of no known encryption type"
+    suite, key = part[1].values()
+    authenticator = opened(suite, key, AUTHENTICATOR, ap_req_of(request)[4], forms.AUTHENTICATOR)
+    if authenticator is None:
+        return "authenticator: doesn't open under the ticket's session key"
+    assert not is_of_suite(authenticator[6])
+    return "authenticator: subkey is of no known encryption type"
+
+
+# The content octets of id-pkinit-authData, 1.3.6.1.5.2.3.1 (RFC 4556, section 3.1).
+AUTH_DATA = bytes.fromhex("2b060105020301")
+
+
+def certificate_reason(value, body):
+    """RFC 4556, section 3.2.1."""
+    request = forms.one(forms.PA_PK_AS_REQ, value)
+    if request is None:
+        return "PA-PK-AS-REQ: not its one DER encoding"
+    signed = forms.one(forms.SIGNED, request[0])
+    if signed is None:
+        return "signedAuthPack: not SignedData of the one form"
+    kind, text = signed
+    if kind != AUTH_DATA:
+        return "signedAuthPack: eContentType isn't id-pkinit-authData"
+    pack = forms.one(forms.AUTH_PACK, text)
+    return pack_reason(pack, body) if pack else octets_reason(text)
+
+
+def octets_reason(text):
+    """Of what isn't the one encoding of an AuthPack: whether it has a field that RFC 4556 doesn't name."""
+    found = forms.one(forms.ELEMENTS, text) or []
+    is_known = all(first in (0xA0, 0xA1, 0xA2, 0xA3) for first, _ in found)
+    return "AuthPack: not its one DER encoding" if is_known else "AuthPack: unknown field"
+
+
+def pack_reason(pack, body):
+    authenticator = pack[0]
+    if 1 not in pack:
+        return "AuthPack: no clientPublicValue"
+    if not 0 <= authenticator[0] <= 999999:
+        return "pkAuthenticator: cusec isn't from 0 to 999999"
+    assert authenticator.get(3) != hashlib.sha1(body).digest()
+    return "pkAuthenticator: paChecksum isn't the SHA-1 digest of the request's body"
+
+
 # ---- The rows ---------------------------------------------------------------------------------------------------------------
 
-def recorded():
-    """Of each reason the first three rows."""
-    counts = {}
+def exchanges():
+    """Label, request, reply and reason of the independent implementation's exchanges."""
     with open(os.path.join(CRATES, "replay_realm", "data", "kdc_exchanges.txt"), encoding="ascii") as rows:
-        for line in rows:
-            if line.startswith("#"):
-                continue
-            label, request, reply, reason = line.rstrip("\n").split(" | ")
-            counts[reason] = counts.get(reason, 0) + 1
-            if counts[reason] <= (3 if reason.endswith("granted") else 1) or label == "message random!":
-                yield label, request, reply
+        return [line.rstrip("\n").split(" | ") for line in rows if not line.startswith("#")]
 
 
-def row(label, request, reply, is_request=True):
+# The reasons that the independent implementation gives for errors 24 and 31.
+REASONS = {
+    "AS 24 type 2 unreadable": "PA-ENC-TIMESTAMP: not the one DER encoding of an EncryptedData",
+    "AS 24 type 2 other etype": "PA-ENC-TIMESTAMP: etype isn't that of the client's key",
+    "AS 24 type 2 doesn't open": "PA-ENC-TIMESTAMP: doesn't open under the client's key",
+    "AS 24 type 2 opens to no value": "PA-ENC-TIMESTAMP: doesn't open under the client's key",
+    "AS 24 microseconds": "PA-ENC-TIMESTAMP: pausec isn't from 0 to 999999",
+    "TGS 31 ticket etype": "ticket: doesn't open under the key of krbtgt",
+    "TGS 31 ticket doesn't open": "ticket: doesn't open under the key of krbtgt",
+    "TGS 31 ticket opens to no value": "ticket: doesn't open under the key of krbtgt",
+    "TGS 31 ticket's key no suite's": "ticket: session key is of no known encryption type",
+    "TGS 31 authenticator etype": "authenticator: doesn't open under the ticket's session key",
+    "TGS 31 authenticator doesn't open": "authenticator: doesn't open under the ticket's session key",
+    "TGS 31 authenticator opens to no value": "authenticator: doesn't open under the ticket's session key",
+    "TGS 31 subkey no suite's": "authenticator: subkey is of no known encryption type",
+}
+
+
+def check_reasons():
+    """The reasons here are those of the independent implementation, in all its exchanges."""
+    seen = set()
+    for label, request, reply, reason in exchanges():
+        if reply != "Unreadable":
+            told = reason_of(bytes.fromhex(request), bytes.fromhex(reply), ACCOUNTS)
+            assert told == REASONS.get(reason) and (told or not reason.startswith(("AS 24", "TGS 31"))), label
+            seen.add(reason)
+    assert seen >= REASONS.keys()
+
+
+# What the independent implementation says of TGS requests without a ticket that opens: its reasons, and the label of a ticket whose kvno is
+# another too, for which alone it is refused.
+CLOSED = {
+    "TGS 16 no type 1", "TGS 41 AP-REQ unreadable", "TGS 31 ticket etype", "TGS 31 ticket doesn't open", "TGS 31 ticket opens to no value",
+    "tgs key number and etype",
+}
+
+
+def check_tickets():
+    """The tickets that open here are those that open by the independent implementation, of all its refused TGS requests."""
+    for label, request, reply, reason in exchanges():
+        if reply.startswith("7e") and reason.startswith("TGS"):
+            assert (ticket_client(bytes.fromhex(request), ACCOUNTS) is None) == bool({label, reason} & CLOSED), label
+
+
+def recorded():
+    """Of each reason the first rows: one, or three of what is granted."""
+    counts = {}
+    for label, request, reply, reason in exchanges():
+        counts[reason] = counts.get(reason, 0) + 1
+        if counts[reason] <= (3 if reason.endswith("granted") else 1) or label == "message random!":
+            yield label, request, reply
+
+
+def row(label, request, reply, is_request=True, accounts=ACCOUNTS):
     octets = bytes.fromhex(request)
     told = reply if reply in ("Unreadable", "Accounts") else bytes.fromhex(reply)
-    return f"ask | {label} | {request} | {reply} | {entry(octets, told, is_request)}\n"
+    return f"ask | {label} | {request} | {reply} | {entry(octets, told, is_request, accounts)}\n"
 
 
 def error_to(request, code):
@@ -198,7 +407,7 @@ def without_krbtgt(rows):
     assert error_to(request, 40) == bytes.fromhex(reply)
     for label, other in ("tgs no krbtgt", "tgs honest"), ("tgs no krbtgt, AP-REQ type", "tgs AP-REQ type"):
         request = of_label[other][0]
-        yield row(label, request.hex(), error_to(request, 7).hex())
+        yield row(label, request.hex(), error_to(request, 7).hex(), accounts=ACCOUNTS[:-1])
 
 
 KNOWN = (16, 17, 18)  # the suites of this realm's keys; 19 and 20 are known too
@@ -212,13 +421,11 @@ def limited():
     """TGS requests to the realm whose policy limits triple DES, of clients that a recorded reply names: its reply where an account has a key of
     triple DES, error 14 where none has one and the request lists nothing else, and else that of the same request without triple DES."""
     granted = []
-    with open(os.path.join(CRATES, "replay_realm", "data", "kdc_exchanges.txt"), encoding="ascii") as rows:
-        for line in rows:
-            label, request, reply = (line.rstrip("\n").split(" | ") + ["", "", ""])[:3]
-            if label.startswith("tgs") and reply.startswith("6d"):
-                octets = bytes.fromhex(request)
-                names = names_and_answer(octets, bytes.fromhex(reply)).split()
-                granted.append((octets, reply, first_known(octets), names[1], names[2], len([e for e in etypes_of(octets) if e in (*KNOWN, 19, 20)])))
+    for label, request, reply, _ in exchanges():
+        if label.startswith("tgs") and reply.startswith("6d"):
+            octets = bytes.fromhex(request)
+            names = names_and_answer(octets, bytes.fromhex(reply)).split()
+            granted.append((octets, reply, first_known(octets), names[1], names[2], len([e for e in etypes_of(octets) if e in (*KNOWN, 19, 20)])))
     def find(is_wanted):
         return next(it for it in granted if is_wanted(*it[2:]))
     request, reply, *_ = find(lambda first, client, service, count: first == 16 and count == 1 and client != "d@R" and service != "d@R")
@@ -237,6 +444,8 @@ def write(path, octets):
 
 
 def main():
+    check_reasons()
+    check_tickets()
     write("four_accounts.cdb", databases.database(ACCOUNTS + REALM))
     # The realm's record has another version, there is none, and the account of h has the kvno 0.
     write("other_version.cdb", databases.database(ACCOUNTS + [(b"\xff", b"\2" + REALM[0][1][1:])]))
@@ -272,6 +481,8 @@ HEAD = """\
 # open PATH: the realm is that of the file with this path from now on. It is opened anew for each message.
 # ask | label | request | reply | entry: what the realm replies at 2000-01-01 00:00:00 with the random octets 00 to 7F, and the entry of the
 # log. A reply is a message in hexadecimal, Unreadable if the octets are no request, or Accounts if the file can't be used.
+# An entry is EXCHANGE CLIENT SERVICE ANSWER by=MEANS. The client of a refused TGS request is that of its ticket where this opens. Behind the
+# error KDC_ERR_PREAUTH_FAILED of an AS request, and KRB_AP_ERR_BAD_INTEGRITY of a TGS request, there is reason="TEXT".
 """
 
 if __name__ == "__main__":
