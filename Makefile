@@ -28,8 +28,8 @@ certificate: kit-there ## read a certificate, without proof: one minute
 test: kit-there $(if $(CRATE),crate-named,listener imports programs) ## run every test and program without proof, or those of one crate: make test CRATE=test_der
 	RT="$(RT)" tools/test $(CRATE)
 
-listener: ## test examples/krb_listen before workers that are a stub: a minute
-	python3 -B examples/test_krb_listen.py
+listener: ## test krb_listen and krb_connect of bridges/, over stubs: a minute
+	python3 -B bridges/test_krb_listen.py
 
 imports: ## test examples/mit_accounts, which reads keytabs of MIT's realms: ten seconds
 	python3 -B examples/test_mit_accounts.py

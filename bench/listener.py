@@ -65,7 +65,7 @@ def stub(folder):
 def listening(folder, command, workers=WORKERS):
     """krb_listen before so many processes of this command: its process and its port. Its log is in the folder."""
     port, log = kdc.free_port(), os.path.join(folder, "log")
-    words = [f"{TOP}/examples/krb_listen", "--listen", f"{HOST}:{port}", "--workers", str(workers), "--", *command]
+    words = [f"{TOP}/bridges/krb_listen", "--listen", f"{HOST}:{port}", "--workers", str(workers), "--", *command]
     with open(log, "w+") as said:
         process = subprocess.Popen(words, stderr=said)
         try:

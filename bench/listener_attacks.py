@@ -4,7 +4,7 @@ import collections, contextlib, os, re, signal, socket, subprocess, sys, tempfil
 import kdc, listener
 from listener import HOST, asking_udp, over_tcp
 
-LISTENER = os.environ.get("KRB_LISTEN", os.path.join(listener.TOP, "examples/krb_listen"))
+LISTENER = os.environ.get("KRB_LISTEN", os.path.join(listener.TOP, "bridges/krb_listen"))
 PATIENCE = 3  # seconds of an honest client
 # A worker. The first word of a message says what is to be done; the reply is the message, and the file of the argument gets a dot for it.
 # It ends at its start while the file `broken` is there.

@@ -1,5 +1,5 @@
 #!/usr/bin/env python3
-"""Tests of krb_listen, before workers that are a stub, and of krb_connect: python3 -B examples/test_krb_listen.py"""
+"""Tests of krb_listen, before workers that are a stub, and of krb_connect: python3 -B bridges/test_krb_listen.py"""
 import contextlib, importlib.machinery, importlib.util, os, re, resource, signal, socket, stat, subprocess, sys, tempfile, threading, time
 import unittest
 
