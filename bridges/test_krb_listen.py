@@ -558,6 +558,16 @@ class Workers(Case):
         self.assertGreater(sum(reply is not None for _, reply in right), 20)
         self.is_served()
 
+    def test_late_frame_of_a_worker_alone(self):
+        """A second frame comes while another client's message waits, which doesn't get it."""
+        self.start("--workers", "1")
+        asking, other = self.udp(), self.udp()
+        for number in range(20):
+            messages = b"double 0.002 %d" % number, b"own %d" % number
+            for it, message in zip((asking, other), messages):
+                it.send(message)
+            self.assertEqual((asking.recv(65536), other.recv(65536)), messages)
+
     def test_failing_starts_wait_longer_each_time(self):
         folder = self.temporary()
         command = os.path.join(folder, "command")
