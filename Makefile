@@ -3,6 +3,7 @@
 
 RT ?= rt
 BENCH ?= as_exchange
+FAULTS ?= refused_growths hostile login_faults downgrades lost_files accounts_tool listener_attacks
 PORT ?= 8888
 PREFIX ?= /usr/local
 # The limit of a run without proof: on a busy machine it takes several times its processor seconds.
@@ -43,11 +44,8 @@ check: kit-there crate-named ## prove one crate and what it stands on: make chec
 gate: kit-there ## prove what hasn't passed on this machine, try the wrong bodies, run each test and program
 	$(RT) ci
 
-faults: kit-there ## refuse memory to the built programs, request by request, send the program damaged requests, and fail krb_login at each system call
-	bench/refused_growths.sh
-	bench/hostile.sh
-	bench/login_faults.sh
-	bench/downgrades.sh
+faults: kit-there ## refuse memory to the built programs, fail them at system calls, and send them damage: make faults FAULTS=hostile (of faults/)
+	for script in $(FAULTS); do faults/$$script.sh || exit 1; done
 
 settings: kit-there ## say what is wrong with a settings file, without proof: make settings FILE=examples/settings.toml
 	@test -f "$$FILE" || { echo "make: name a file, as in make settings FILE=examples/settings.toml" >&2; exit 2; }

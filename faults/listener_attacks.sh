@@ -3,7 +3,7 @@
 # reads; 128 clients that never read; workers that write two frames for a message; and workers that end at their start. It says what each
 # did, and at the end 'none got through', with status 0. Else the status is 1.
 #
-# Usage: bench/listener_attacks.sh. KRB_LISTEN may name another listener. It needs python3.
+# Usage: faults/listener_attacks.sh. KRB_LISTEN may name another listener. It needs python3.
 set -e
 top=$(cd "$(dirname "$0")/.." && pwd)
-exec timeout 120 python3 -B "$top/bench/listener_attacks.py"
+exec timeout 120 python3 -B "$top/faults/listener_attacks.py"

@@ -1,6 +1,7 @@
 """Attacks krb_listen before workers that are a stub: see listener_attacks.sh."""
 import collections, contextlib, os, re, signal, socket, subprocess, sys, tempfile, threading, time
 
+sys.path.insert(0, os.path.join(os.path.dirname(os.path.dirname(os.path.abspath(__file__))), "bench"))
 import kdc, listener
 from listener import HOST, asking_udp, over_tcp
 
