@@ -163,6 +163,27 @@ def two_frames():
             return "a client got what was meant for another"
 
 
+def late_frame():
+    """A worker alone that writes a second frame later, while another client's message waits."""
+    with attacked(workers=1) as it, contextlib.ExitStack() as held:
+        clients, replies = [], collections.Counter()
+        for _ in range(2):
+            clients.append(held.enter_context(socket.socket(socket.AF_INET, socket.SOCK_DGRAM)))
+            clients[-1].settimeout(PATIENCE)
+            clients[-1].connect((HOST, it.port))
+        for turn in range(120):
+            late = (b"0.0005", b"0.002", b"0.01")[turn % 3]
+            asked = b"double %s %d" % (late, turn), b"own %d" % turn
+            for client, message in zip(clients, asked):
+                client.send(message)
+            for client, message in zip(clients, asked):
+                with contextlib.suppress(OSError):
+                    replies["own" if client.recv(65536) == message else "another's"] += 1
+        print(f"  replies: {dict(replies)} of 240; workers ended: {it.read_log().count('ended with status')}")
+        if replies["another's"]:
+            return "a client got what was meant for another"
+
+
 def workers_that_end():
     """Workers that end at their start: with the listener's own start, and once it served."""
     with attacked() as it:
@@ -190,7 +211,7 @@ def workers_that_end():
 
 def main():
     through = []
-    for attack in same_request, unread_log, clients_that_never_read, two_frames, workers_that_end:
+    for attack in same_request, unread_log, clients_that_never_read, two_frames, late_frame, workers_that_end:
         print(attack.__doc__, flush=True)
         if why := attack():
             print(f"  GOT THROUGH: {why}", flush=True)
