@@ -55,7 +55,7 @@ settings: kit-there ## say what is wrong with a settings file, without proof: ma
 build: ## prove and build the programs that are installed, or one, where they aren't built: make build PROGRAM=krb_login
 	@RT="$(RT)" tools/build $(PROGRAM)
 
-install: build ## install the programs, manual pages, units and documents: make install PREFIX=/usr/local DESTDIR=
+install: build ## install the programs, the bridges with their units, manual pages and documents: make install PREFIX=/usr/local DESTDIR=
 	@tools/install "$(PREFIX)" "$(DESTDIR)"
 
 uninstall: ## take away what make install installed: make uninstall PREFIX=/usr/local DESTDIR=
