@@ -3,6 +3,7 @@
 
 RT ?= rt
 BENCH ?= as_exchange
+FAULTS ?= refused_growths hostile login_faults downgrades lost_files accounts_tool listener_attacks
 PORT ?= 8888
 PREFIX ?= /usr/local
 # The limit of a run without proof: on a busy machine it takes several times its processor seconds.
@@ -28,8 +29,8 @@ certificate: kit-there ## read a certificate, without proof: one minute
 test: kit-there $(if $(CRATE),crate-named,listener imports programs) ## run every test and program without proof, or those of one crate: make test CRATE=test_der
 	RT="$(RT)" tools/test $(CRATE)
 
-listener: ## test examples/krb_listen before workers that are a stub: a minute
-	python3 -B examples/test_krb_listen.py
+listener: ## test krb_listen and krb_connect of bridges/, over stubs: a minute
+	python3 -B bridges/test_krb_listen.py
 
 imports: ## test examples/mit_accounts, which reads keytabs of MIT's realms: ten seconds
 	python3 -B examples/test_mit_accounts.py
@@ -43,11 +44,8 @@ check: kit-there crate-named ## prove one crate and what it stands on: make chec
 gate: kit-there ## prove what hasn't passed on this machine, try the wrong bodies, run each test and program
 	$(RT) ci
 
-faults: kit-there ## refuse memory to the built programs, request by request, send the program damaged requests, and fail krb_login at each system call
-	bench/refused_growths.sh
-	bench/hostile.sh
-	bench/login_faults.sh
-	bench/downgrades.sh
+faults: kit-there ## refuse memory to the built programs, fail them at system calls, and send them damage: make faults FAULTS=hostile (of faults/)
+	for script in $(FAULTS); do faults/$$script.sh || exit 1; done
 
 settings: kit-there ## say what is wrong with a settings file, without proof: make settings FILE=examples/settings.toml
 	@test -f "$$FILE" || { echo "make: name a file, as in make settings FILE=examples/settings.toml" >&2; exit 2; }
@@ -57,7 +55,7 @@ settings: kit-there ## say what is wrong with a settings file, without proof: ma
 build: ## prove and build the programs that are installed, or one, where they aren't built: make build PROGRAM=krb_login
 	@RT="$(RT)" tools/build $(PROGRAM)
 
-install: build ## install the programs, manual pages, units and documents: make install PREFIX=/usr/local DESTDIR=
+install: build ## install the programs, the bridges with their units, manual pages and documents: make install PREFIX=/usr/local DESTDIR=
 	@tools/install "$(PREFIX)" "$(DESTDIR)"
 
 uninstall: ## take away what make install installed: make uninstall PREFIX=/usr/local DESTDIR=

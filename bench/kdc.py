@@ -44,6 +44,14 @@ def start(words, port, **options):
     return HELD[-1].pid
 
 
+def end_held():
+    """Ends all programs that were started so."""
+    while HELD:
+        held = HELD.pop()
+        held.terminate()
+        held.wait()
+
+
 def wait_for(port, process, said):
     """Waits until it listens on the port, at most for half a minute: on a busy machine a start takes seconds."""
     until = time.monotonic() + 30
@@ -274,10 +282,7 @@ def measured(program, accounts):
             if shutil.which("krb5kdc"):
                 measure_stock(folder, keytab, accounts)
         finally:
-            while HELD:
-                held = HELD.pop()
-                held.terminate()
-                held.wait()
+            end_held()
 
 
 if __name__ == "__main__":

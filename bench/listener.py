@@ -1,10 +1,9 @@
-"""Measures krb_listen, and plays hostile clients against it: see listener.sh.
+"""Measures krb_listen: see listener.sh.
 
-usage: listener.py cost|flood|all [COMMAND ARGUMENT..]     COMMAND answers frames; without it that is a stub in C, or in python3
-       listener.py kdcd [ACCOUNTS..]                       the same before krb_kdcd, which KRB_KDCD names
+usage: listener.py cost [COMMAND ARGUMENT..]     COMMAND answers frames; without it that is a stub in C, or in python3
+       listener.py kdcd [ACCOUNTS..]             the same before krb_kdcd, which KRB_KDCD names
 """
-import collections, contextlib, itertools, multiprocessing, os, random, selectors, shutil, socket, statistics
-import subprocess, sys, tempfile, threading, time
+import collections, contextlib, itertools, os, shutil, socket, subprocess, sys, tempfile, time
 
 import kdc, replies
 
@@ -65,7 +64,7 @@ def stub(folder):
 def listening(folder, command, workers=WORKERS):
     """krb_listen before so many processes of this command: its process and its port. Its log is in the folder."""
     port, log = kdc.free_port(), os.path.join(folder, "log")
-    words = [f"{TOP}/examples/krb_listen", "--listen", f"{HOST}:{port}", "--workers", str(workers), "--", *command]
+    words = [f"{TOP}/bridges/krb_listen", "--listen", f"{HOST}:{port}", "--workers", str(workers), "--", *command]
     with open(log, "w+") as said:
         process = subprocess.Popen(words, stderr=said)
         try:
@@ -224,6 +223,13 @@ def on_processors(count):
         os.sched_setaffinity(0, whole)
 
 
+def kdcd_command(folder, count):
+    """The keytab of a, and the command of krb_kdcd over a database of so many accounts."""
+    keytab, database = os.path.join(folder, "keytab"), os.path.join(folder, "accounts.cdb")
+    kdc.write_database(database, kdc.write_keytab(keytab, kdc.configure(folder, 1)), count)
+    return keytab, [os.environ["KRB_KDCD"], database, "/dev/urandom", "--log"]
+
+
 @contextlib.contextmanager
 def kdcd_listening(folder, command, processors):
     with contextlib.ExitStack() as stack:
@@ -275,10 +281,9 @@ def compare(own, stock, processors, processes):
 
 
 def beside_stock(folder, count):
-    """AS exchanges of krb_kdcd and of krb5kdc with so many accounts, and hostile clients: what krb_kdcd should keep to and doesn't."""
-    keytab, database, stock_port, over = os.path.join(folder, "keytab"), os.path.join(folder, "accounts.cdb"), kdc.free_port(), []
-    kdc.write_database(database, kdc.write_keytab(keytab, kdc.configure(folder, 1)), count)
-    command = [os.environ["KRB_KDCD"], database, "/dev/urandom", "--log"]
+    """AS exchanges of krb_kdcd and of krb5kdc with so many accounts: what krb_kdcd should keep to and doesn't."""
+    stock_port, over = kdc.free_port(), []
+    keytab, command = kdcd_command(folder, count)
     environment = kdc.make_stock(folder, stock_port, count) if has_stock() else None
     for processors in (1, 4) if len(os.sched_getaffinity(0)) >= 4 else (1,):
         print(f"with {count} accounts and {processors} processors:", flush=True)
@@ -288,132 +293,7 @@ def beside_stock(folder, count):
             with stock_listening(environment, stock_port, processors, processes) as (process, port):
                 stock = exchanges(f"krb5kdc, processes: {processes}", folder, process, port, keytab)
             over += compare(own, stock, processors, processes)
-    with kdcd_listening(folder, command, 1) as (_, port):
-        asked = kdc.request_of_kinit(folder, port, keytab)
-    play_hostile(folder, command, asked)
     return over
-
-
-# Hostile clients
-
-CONNECTIONS, SECONDS, SILENT, GARBAGE = 10_000, 2, 500, 100
-PATIENCE = 3  # seconds of an honest client: a lost SYN is sent again after one
-BROKEN = (
-    lambda chance: kdc.framed(chance.randbytes(chance.randrange(1, 2000))),
-    lambda chance: kdc.framed(bytes(300))[: chance.randrange(1, 300)],
-    lambda chance: chance.randrange(65_537, 1 << 32).to_bytes(4, "big") + chance.randbytes(9),
-    lambda chance: bytes(4),
-)
-
-
-def sources(net, count):
-    return [f"127.{net}.{number // 250}.{number % 250 + 1}" for number in range(count)]
-
-
-def connecting(port, source):
-    it = socket.socket()
-    it.setblocking(False)
-    it.bind((source, 0))
-    it.connect_ex((HOST, port))
-    return it
-
-
-def flood(port, requests, net, told):
-    """A connection for each request, at even pace, of 50 sources: sends how many were answered, and in how long they began."""
-    count = len(requests)
-    watched, begin, own, answered = selectors.DefaultSelector(), time.monotonic(), sources(net, 50), 0
-    begun, took = 0, 0.0
-    while begun < count or watched.get_map() and time.monotonic() < begin + 15:
-        while begun < count and time.monotonic() >= begin + begun * SECONDS / count:
-            watched.register(connecting(port, own[begun % 50]), selectors.EVENT_WRITE)
-            begun, took = begun + 1, time.monotonic() - begin
-        for key, event in watched.select(0.001):
-            try:
-                if event == selectors.EVENT_WRITE:
-                    key.fileobj.send(kdc.framed(requests.pop()))
-                    watched.modify(key.fileobj, selectors.EVENT_READ)
-                    continue
-                answered += len(key.fileobj.recv(65536)) > 4
-            except OSError:
-                pass
-            watched.unregister(key.fileobj)
-            key.fileobj.close()
-    told.send((answered, took))
-
-
-def break_frames(port, over):
-    """Garbage in frames and as datagrams, a hundred a second, of 50 sources."""
-    chance, own, held, datagrams = random.Random(1), sources(9, 50), collections.deque(), socket.socket(socket.AF_INET, socket.SOCK_DGRAM)
-    for number in itertools.count():
-        if over.wait(1 / GARBAGE):
-            return
-        octets = BROKEN[number % len(BROKEN)](chance)
-        datagrams.sendto(octets, (HOST, port))
-        with contextlib.suppress(OSError):
-            held.append(socket.create_connection((HOST, port), 1, (own[number % 50], 0)))
-            held[-1].sendall(octets)
-        if len(held) > 200:
-            held.popleft().close()
-
-
-def ask_honestly(ask, requests, over, seconds):
-    """Asks each 20 milliseconds; keeps the seconds of each answer, or None where there was none in time."""
-    for asked in requests:
-        if over.wait(0.02):
-            return
-        began = time.monotonic()
-        try:
-            seconds.append(time.monotonic() - began if ask(asked) else None)
-        except OSError:
-            seconds.append(None)
-
-
-def play_hostile(folder, command, asked):
-    over, honest, requests = threading.Event(), {"UDP": [], "TCP": []}, kdc.numbered(asked, 3 * CONNECTIONS)  # each is another one
-    with listening(folder, command) as (process, port):
-        silent = [connecting(port, it) for it in sources(8, 40) * 13][:SILENT]
-        ways = {"UDP": asking_udp(port, PATIENCE), "TCP": lambda it: over_tcp(port, it, seconds=PATIENCE)}
-        threads = [threading.Thread(target=ask_honestly, args=(ways[it], requests[at :: 3], over, honest[it])) for at, it in enumerate(ways, 1)]
-        threads.append(threading.Thread(target=break_frames, args=(port, over)))
-        for it in threads:
-            it.start()
-        time.sleep(1)
-        pipes, before = [multiprocessing.Pipe() for _ in range(4)], used(process)
-        of_floods = [requests[::3][net :: len(pipes)] for net in range(len(pipes))]
-        floods = [multiprocessing.Process(target=flood, args=(port, of_floods[net - 1], net, it[1])) for net, it in enumerate(pipes, 1)]
-        for it in floods:
-            it.start()
-        told = [it[0].recv() for it in pipes]
-        spent = used(process) - before
-        time.sleep(13 - SECONDS)  # the silent ones are taken after a second, and closed in this time
-        over.set()
-        for it in threads + floods:
-            it.join()
-        left = sum(is_open(it) for it in silent)
-    say_hostile(told, spent, honest, left, os.path.join(folder, "log"))
-
-
-def is_open(stream):
-    try:
-        return stream.recv(1) != b""
-    except BlockingIOError:
-        return True
-    except OSError:
-        return False
-
-
-def say_hostile(told, spent, honest, left, log):
-    answered, took = sum(it[0] for it in told), max(it[1] for it in told)
-    print(f"{CONNECTIONS} connections in {took:.1f} seconds: {answered} answered; {spent:.1f} seconds of processor in all", flush=True)
-    print(f"{SILENT} silent ones: {left} open after 10 seconds. {GARBAGE} broken frames a second over TCP, and as many datagrams")
-    for name, seconds in honest.items():
-        good = [it for it in seconds if it is not None]
-        print(f"honest client over {name}: {len(good)} of {len(seconds)} answered at the first try, "
-              f"median {statistics.median(good) * 1e3:.1f} milliseconds, longest {max(good) * 1e3:.0f}")
-    with open(log) as it:
-        print("".join(line for line in it if line.startswith("krb_listen: ") and " closed " in line or "dropped" in line), end="")
-    assert all(None not in it for it in honest.values()), "an honest client wasn't answered"
-    assert not left, "a silent connection is open"
 
 
 def run(what, words):
@@ -421,19 +301,13 @@ def run(what, words):
         try:
             if what == "kdcd":
                 return beside_stock(folder, int(words[0]))
-            command = words or stub(folder)
-            if what in ("cost", "all"):
-                cost(folder, command)
-            if what in ("flood", "all"):
-                play_hostile(folder, command, request())
+            cost(folder, words or stub(folder))
             return []
         finally:
-            while kdc.HELD:
-                kdc.HELD[-1].terminate()
-                kdc.HELD.pop().wait()
+            kdc.end_held()
 
 
-def main(what="all", *words):
+def main(what="cost", *words):
     over = []
     for each in [[it] for it in words or ("10", "1000000")] if what == "kdcd" else [words]:
         over += run(what, each)
@@ -442,4 +316,6 @@ def main(what="all", *words):
 
 
 if __name__ == "__main__":
+    if sys.argv[1:2] not in ([], ["cost"], ["kdcd"]):
+        sys.exit("listener.py: expected cost [COMMAND ARGUMENT..] or kdcd [ACCOUNTS..]")
     main(*sys.argv[1:])

@@ -1,12 +1,10 @@
 #!/bin/sh
 # What a realm in a file costs, with 10 and with 1,000,000 accounts: a start of krb_kdcd beside /bin/true, an AS exchange through one pipe
 # beside krb_realmd with one account, resident memory, and krb_accounts make. It fails where making 1,000,000 accounts by key takes 6 seconds
-# of processor or 300 MB. Then two tests of krb_kdcd, which fail where a reply is wrong:
-#   replace   its file is replaced 100 times under 100,000 requests: each reply is of a file that stood then, and none fails
-#   damage    5,000 damaged files, by a seed: it refuses as it says it does, or answers what an independent reader finds in the file
+# of processor or 300 MB. faults/file_changes.sh tests krb_kdcd while its file is replaced or damaged.
 #
-# Usage: bench/realm_file.sh [cost [ACCOUNTS..] | make [ACCOUNTS] | replace | damage [COUNT [SEED]] | all]. account_files.py writes the
-# databases, and is such a reader. KRB_KDCD, KRB_ACCOUNTS and KRB_REALMD may name built programs.
+# Usage: bench/realm_file.sh [cost [ACCOUNTS..] | make [ACCOUNTS]]. account_files.py writes the databases. KRB_KDCD, KRB_ACCOUNTS and
+# KRB_REALMD may name built programs.
 #
 # It needs kinit, ktutil, socat and python3: on Debian krb5-user, socat.
 set -e

@@ -84,7 +84,7 @@ by() {
     files="-C $folder/$1 -K $folder/$2 -A $folder/$3"
     shift 3
     # shellcheck disable=SC2086
-    "$top/examples/krb_connect" "127.0.0.1:$port" -- "$KRB_LOGIN" -c "$work/cache" $files "$@"
+    "$top/bridges/krb_connect" "127.0.0.1:$port" -- "$KRB_LOGIN" -c "$work/cache" $files "$@"
 }
 
 # login ARGUMENT..: as the user, by the certificate of the folder.
@@ -202,7 +202,7 @@ start_realm_kdc() {
         "$KRB_ACCOUNTS" keytab "$work/accounts" "$work/host.keytab" "host/$host"
     } >>"$work/log" 2>&1
     realm_with "$work/2048" kdc
-    listen "$top/examples/krb_listen" --listen 127.0.0.1:PORT --workers 2 -- "$KRB_KDCD" "$work/accounts.cdb" /dev/urandom --log
+    listen "$top/bridges/krb_listen" --listen 127.0.0.1:PORT --workers 2 -- "$KRB_KDCD" "$work/accounts.cdb" /dev/urandom --log
     bridge=$started
     configuration "127.0.0.1:$port" "" >"$work/mit.conf"
 }

@@ -133,7 +133,7 @@ stop_server() {
 }
 
 login() {
-    "$top/examples/krb_connect" "127.0.0.1:$kdc_port" -- "$KRB_LOGIN" -c "$work/cache" -p "$work/password" "$@" user@EXAMPLE.COM
+    "$top/bridges/krb_connect" "127.0.0.1:$kdc_port" -- "$KRB_LOGIN" -c "$work/cache" -p "$work/password" "$@" user@EXAMPLE.COM
 }
 
 # key_of SUITE: a further key of the service, the only one that the KDC has, and a keytab with it alone. Session keys are of the suite.

@@ -72,7 +72,7 @@ try "a text of MIT's keys" yes "locked is locked .*disabled" moved
 try "not over a text that is there" no "is there already" moved
 try "the text" yes "changed.*[[:space:]]2[[:space:]]key" "$KRB_ACCOUNTS" list "$work/accounts"
 try "the database" yes "" "$KRB_ACCOUNTS" make "$work/accounts" "$work/accounts.cdb"
-listen "$top/examples/krb_listen" --listen 127.0.0.1:PORT --workers 2 -- "$KRB_KDCD" "$work/accounts.cdb" /dev/urandom --log
+listen "$top/bridges/krb_listen" --listen 127.0.0.1:PORT --workers 2 -- "$KRB_KDCD" "$work/accounts.cdb" /dev/urandom --log
 bridge=$started
 configuration "127.0.0.1:$port" "" >"$work/mit.conf"
 

@@ -80,7 +80,7 @@ serve() {
     if [ "$way" = socat ]; then
         start_realm
     else
-        listen "$top/examples/krb_listen" --listen 127.0.0.1:PORT --workers 2 -- "$KRB_KDCD" "$work/accounts.cdb" /dev/urandom --log
+        listen "$top/bridges/krb_listen" --listen 127.0.0.1:PORT --workers 2 -- "$KRB_KDCD" "$work/accounts.cdb" /dev/urandom --log
         bridge=$started
     fi
     kdc=tcp/127.0.0.1:$port

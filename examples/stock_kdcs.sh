@@ -40,7 +40,7 @@ heimdal() {
 
 # login ARGUMENT..: krb_login at the KDC, with the cache. Both KDCs close a connection after each reply.
 login() {
-    "$top/examples/krb_connect" "127.0.0.1:$port" -- "$KRB_LOGIN" -c "$work/cache" "$@"
+    "$top/bridges/krb_connect" "127.0.0.1:$port" -- "$KRB_LOGIN" -c "$work/cache" "$@"
 }
 
 late() {
@@ -54,7 +54,7 @@ by_descriptor() {
 # The cache and the realm are those of the environment.
 by_environment() {
     rm -f "$work/cache"
-    KRB5_CONFIG=$work/mit.conf KRB5CCNAME=FILE:$work/cache "$top/examples/krb_connect" "127.0.0.1:$port" -- "$KRB_LOGIN" -p "$work/password" user &&
+    KRB5_CONFIG=$work/mit.conf KRB5CCNAME=FILE:$work/cache "$top/bridges/krb_connect" "127.0.0.1:$port" -- "$KRB_LOGIN" -p "$work/password" user &&
         by_cache klist
 }
 
@@ -142,7 +142,7 @@ cp $crate/data/* $work && cd $work
 exec xargs -a $crate/args $KRB_LOGIN < <(tee $crate/stdin) > >(tee $crate/stdout)
 RECORDER
     chmod +x "$work/recorder"
-    "$top/examples/krb_connect" "127.0.0.1:$port" -- "$work/recorder" && by_cache klist -e -f
+    "$top/bridges/krb_connect" "127.0.0.1:$port" -- "$work/recorder" && by_cache klist -e -f
 }
 
 start_heimdal() {

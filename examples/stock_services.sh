@@ -216,7 +216,7 @@ done
 [ "$missing" -eq 0 ] || exit 2
 make_machine
 make_realm
-"$top/examples/krb_listen" --listen 127.0.0.1:88 --workers 1 -- "$KRB_KDCD" "$work/accounts.cdb" /dev/urandom --log 2>"$work/kdc.log" &
+"$top/bridges/krb_listen" --listen 127.0.0.1:88 --workers 1 -- "$KRB_KDCD" "$work/accounts.cdb" /dev/urandom --log 2>"$work/kdc.log" &
 till_open 88
 try "kinit" yes "Password for alice@EXAMPLE.COM" login
 for name in "$@"; do

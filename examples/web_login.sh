@@ -63,7 +63,7 @@ web_keytab() {
 login() {
     cache=$1
     shift
-    "$top/examples/krb_connect" "127.0.0.1:$kdc_port" -- "$KRB_LOGIN" -c "$work/$cache" -p "$work/password" "$@" user@EXAMPLE.COM
+    "$top/bridges/krb_connect" "127.0.0.1:$kdc_port" -- "$KRB_LOGIN" -c "$work/$cache" -p "$work/password" "$@" user@EXAMPLE.COM
 }
 
 by_cache() {
@@ -88,7 +88,7 @@ echo "$password" >"$work/password"
 try "the realm's accounts" yes "" make_accounts
 try "a keytab of all services, by krb_accounts" yes "" keytab
 try "the web server's own, by krb_keytab" yes "   1 .* $service@EXAMPLE.COM" web_keytab
-listen "$top/examples/krb_listen" --listen 127.0.0.1:PORT --workers 2 -- "$KRB_KDCD" "$work/accounts.cdb" /dev/urandom --log
+listen "$top/bridges/krb_listen" --listen 127.0.0.1:PORT --workers 2 -- "$KRB_KDCD" "$work/accounts.cdb" /dev/urandom --log
 bridge=$started kdc_port=$port
 configuration "127.0.0.1:$kdc_port" "" >"$work/krb5.conf"
 start_web "$work/krb5.conf"

@@ -19,7 +19,7 @@ PROGRAMS = {
 }
 # The programs in Python, with their file and the section of their manual page.
 Script = collections.namedtuple("Script", "path section")
-SCRIPTS = {"krb_connect": Script(f"{TOP}/examples/krb_connect", 1), "krb_listen": Script(f"{TOP}/examples/krb_listen", 8)}
+SCRIPTS = {"krb_connect": Script(f"{TOP}/bridges/krb_connect", 1), "krb_listen": Script(f"{TOP}/bridges/krb_listen", 8)}
 ASKING = ("krb_accounts", "krb_login")  # those whose password tools/ask_password asks for
 NO_KIT = (
     "{} is missing: the command of Rattle's kit, which proves and builds. Who gave you this repository has the kit; its folder bin goes on "

@@ -58,7 +58,7 @@ class Copy(unittest.TestCase):
         self.folder, self.plain, self.top = folder.name, plain.name, f"{folder.name}/the clone"
         os.mkdir(self.top)
         for name in os.listdir(TOP):
-            if name in ("tools", "examples", "docs"):
+            if name in ("tools", "bridges", "examples", "docs"):
                 shutil.copytree(f"{TOP}/{name}", f"{self.top}/{name}", symlinks=True)
             elif os.path.isfile(f"{TOP}/{name}"):
                 shutil.copy(f"{TOP}/{name}", self.top)

@@ -1,4 +1,4 @@
-//! Single calls, and the bytes that they make. bench/refused_growths.sh refuses each growth of such a row in turn.
+//! Single calls, and the bytes that they make. faults/refused_growths.sh refuses each growth of such a row in turn.
 
 use anyhow::{Context, bail};
 use gss_message_tokens::{MicToken, WrapToken};

@@ -8,7 +8,7 @@ use picky_asn1_der::{from_exact_bytes, to_bytes};
 const ROOM: usize = 128;
 
 /// Reads an error, and then prints the octets that it is written to. From the first printed word on no memory is taken, so that
-/// bench/refused_growths.sh can refuse every growth from there on.
+/// faults/refused_growths.sh can refuse every growth from there on.
 pub(crate) fn run(rt: &HostRuntime, words: &[String]) -> anyhow::Result<String> {
     let [text] = words else {
         bail!("usage: slice HEXADECIMAL");

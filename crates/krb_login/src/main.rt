@@ -58,7 +58,7 @@ MEANS is one of: -k KEYTAB; -p FILE; -C CERTIFICATE -K KEY -A ANCHOR
   -v          say on standard error what is asked, what the KDC answers, and the suite and salt that it names
 A user without REALM is one of the default_realm of KRB5_CONFIG or /etc/krb5.conf.
 Requests go to standard output and replies come from standard input, each after its length in four octets, the highest first. So
-examples/krb_connect KDC -- krb_login .. is the client.";
+krb_connect KDC -- krb_login .. is the client.";
 
 fn main(rt: HostRuntime) -> ExitCode {
     let stop = match run(&rt) {

@@ -13,4 +13,4 @@ for name in $("$tests" --list | sed -n 's/: test$//p'); do
     (ulimit -v 4096 && "$tests" "$name" >/dev/null) || { echo "$name fails in 4 MiB of address space"; exit 1; }
 done
 "$top/krb_realm" </dev/null
-exec python3 -B "$top/bench/hostile.py" "$top/crates/krb_realmd/out/krb_realmd" "$top/crates/replay_realm/data" "$@"
+exec python3 -B "$top/faults/hostile.py" "$top/crates/krb_realmd/out/krb_realmd" "$top/crates/replay_realm/data" "$@"

@@ -1,10 +1,11 @@
 """Attacks krb_listen before workers that are a stub: see listener_attacks.sh."""
 import collections, contextlib, os, re, signal, socket, subprocess, sys, tempfile, threading, time
 
+sys.path.insert(0, os.path.join(os.path.dirname(os.path.dirname(os.path.abspath(__file__))), "bench"))
 import kdc, listener
 from listener import HOST, asking_udp, over_tcp
 
-LISTENER = os.environ.get("KRB_LISTEN", os.path.join(listener.TOP, "examples/krb_listen"))
+LISTENER = os.environ.get("KRB_LISTEN", os.path.join(listener.TOP, "bridges/krb_listen"))
 PATIENCE = 3  # seconds of an honest client
 # A worker. The first word of a message says what is to be done; the reply is the message, and the file of the argument gets a dot for it.
 # It ends at its start while the file `broken` is there.
@@ -162,6 +163,27 @@ def two_frames():
             return "a client got what was meant for another"
 
 
+def late_frame():
+    """A worker alone that writes a second frame later, while another client's message waits."""
+    with attacked(workers=1) as it, contextlib.ExitStack() as held:
+        clients, replies = [], collections.Counter()
+        for _ in range(2):
+            clients.append(held.enter_context(socket.socket(socket.AF_INET, socket.SOCK_DGRAM)))
+            clients[-1].settimeout(PATIENCE)
+            clients[-1].connect((HOST, it.port))
+        for turn in range(120):
+            late = (b"0.0005", b"0.002", b"0.01")[turn % 3]
+            asked = b"double %s %d" % (late, turn), b"own %d" % turn
+            for client, message in zip(clients, asked):
+                client.send(message)
+            for client, message in zip(clients, asked):
+                with contextlib.suppress(OSError):
+                    replies["own" if client.recv(65536) == message else "another's"] += 1
+        print(f"  replies: {dict(replies)} of 240; workers ended: {it.read_log().count('ended with status')}")
+        if replies["another's"]:
+            return "a client got what was meant for another"
+
+
 def workers_that_end():
     """Workers that end at their start: with the listener's own start, and once it served."""
     with attacked() as it:
@@ -189,7 +211,7 @@ def workers_that_end():
 
 def main():
     through = []
-    for attack in same_request, unread_log, clients_that_never_read, two_frames, workers_that_end:
+    for attack in same_request, unread_log, clients_that_never_read, two_frames, late_frame, workers_that_end:
         print(attack.__doc__, flush=True)
         if why := attack():
             print(f"  GOT THROUGH: {why}", flush=True)

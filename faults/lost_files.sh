@@ -15,4 +15,4 @@ for program in "$KRB_ACCOUNTS" "$KRB_KEYTAB" "$KRB_LOGIN"; do
     [ -x "$program" ] || { echo "lost_files: $program is missing: see the head of $0" >&2; exit 2; }
 done
 export KRB_ACCOUNTS KRB_KEYTAB KRB_LOGIN
-exec python3 -B "$top/bench/lost_files.py"
+exec python3 -B "$top/faults/lost_files.py"

@@ -17,7 +17,7 @@ what is written into the slice is told all the same.
 """
 import collections, concurrent.futures, os, re, subprocess, sys, tempfile
 
-FOLDER = os.path.join("bench", "refused_growths")
+FOLDER = os.path.join("faults", "refused_growths")
 OF_MEMORY = "(?:[Oo]ut of memory|memory allocation failed)"
 WANT = re.compile(rf"refused: (?:(?:.*: )?{OF_MEMORY}|Memory|(?:Asked|Answered|Taken|Admitted)\(Memory\))$")
 SERVED = re.compile(r"Err\(Memory\) ?([0-9a-f]*)$")

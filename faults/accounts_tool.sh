@@ -1,8 +1,8 @@
 #!/bin/bash
 # krb_accounts is killed at each of its system calls, and writes to full disks. After each run a file is its old content or its new one, and
-# never another. Before it, commands that would lose or weaken the realm's key are refused, and others print what they should. Then it makes a
-# database of 1,000,000 accounts by key, in less than 6 seconds of processor and 300 MB. It needs strace and python3, and the program built
-# (./krb_accounts --version) or KRB_ACCOUNTS=PROGRAM. The part of the small disk needs the right to mount, and is left out without it.
+# never another. Before it, commands that would lose or weaken the realm's key are refused, and others print what they should. It needs strace
+# and python3, and the program built (./krb_accounts --version) or KRB_ACCOUNTS=PROGRAM. The part of the small disk needs the right to mount,
+# and is left out without it.
 set -e
 top=$(cd "$(dirname "$0")/.." && pwd)
 tool=${KRB_ACCOUNTS:-$top/crates/krb_account_tool/out/krb_account_tool}
@@ -151,5 +151,3 @@ if mount -t tmpfs -o size=16k none "$work/disk" 2>/dev/null; then
 else
     echo "the small disk was left out: no right to mount"
 fi
-
-KRB_ACCOUNTS=$tool python3 -B "$top/bench/realm_file.py" make

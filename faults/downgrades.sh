@@ -8,4 +8,4 @@ top=$(cd "$(dirname "$0")/.." && pwd)
 program=${KRB_LOGIN:-$top/crates/krb_login/out/krb_login}
 [ -x "$program" ] || { echo "downgrades: $program is missing: run make build PROGRAM=krb_login first" >&2; exit 2; }
 command -v openssl >/dev/null || { echo "downgrades: openssl is missing" >&2; exit 2; }
-exec python3 -B "$top/bench/downgrades.py" "$program"
+exec python3 -B "$top/faults/downgrades.py" "$program"

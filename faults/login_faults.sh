@@ -9,4 +9,4 @@ program=${KRB_LOGIN:-$top/crates/krb_login/out/krb_login}
 for tool in cc strace; do
     command -v $tool >/dev/null || { echo "login_faults: $tool is missing" >&2; exit 2; }
 done
-exec python3 -B "$top/bench/login_faults.py" "$program"
+exec python3 -B "$top/faults/login_faults.py" "$program"
