@@ -1,3 +1,4 @@
+mod Told
 mod Judged
 mod JudgedParts
 mod SignerLemmas

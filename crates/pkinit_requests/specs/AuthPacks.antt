@@ -1,5 +1,5 @@
 -- PA-PK-AS-REQ and AuthPack, and the fields of an AuthPack (RFC 4556, section 3.2.1).
-use Rattle.std.specs.Prelude.{◌≡◌, Bool, false, Option, None, Some, refl}
+use Rattle.std.specs.Prelude.{◌≡◌, Bool, false, List, Option, None, Some, refl}
 use Rattle.std.specs.Bool.{nat_eq}
 use Rattle.std.specs.Option.{option_map}
 use Rattle.std.specs.Cmp.Lexicographic.{pointwise}
@@ -22,6 +22,7 @@ use Rattle.pkinit_messages.specs.declared.auth_pack.AuthPack.{AuthPack}
 use Rattle.pkinit_messages.specs.declared.pa_pk_as_req.PaPkAsReq.{PaPkAsReq}
 use Rattle.pkinit_messages.specs.contracts.pa_pk_as_req.PaPkAsReqTagged.TheImpl as request_impl
 use Rattle.pkinit_requests.specs.contracts.auth_packs.Asn1RawDerAuthPackEncoding.TheImpl as pack_impl
+use Rattle.pkinit_requests.specs.contracts.auth_packs.Asn1SequenceOfAsn1RawDerElementsEncoding.TheImpl as elements_impl
 use Rattle.asn1_der.specs.Octets.{sequence_octet}
 use Rattle.pkinit_requests.specs.declared.table.TheConstants.{AUTH_DATA}
 
@@ -41,6 +42,14 @@ IsAuthPack bytes pack = Writes pack_impl.ghosts.pack_tree pack bytes
 pub sole_auth_pack : (bytes : Bytes) → IsSole (IsAuthPack bytes)
 unfolding IsAuthPack
 sole_auth_pack bytes v w p q = pack_impl.ghosts.pack_injective v w p.0 q.0 (sym p.1 ∙ q.1)
+
+-- the bytes are the one DER encoding of a SEQUENCE of these elements
+unfoldable pub AreElements : Bytes → List Raw → Type 0
+AreElements bytes elements = Writes elements_impl.ghosts.elements_tree elements bytes
+
+pub sole_elements : (bytes : Bytes) → IsSole (AreElements bytes)
+unfolding AreElements
+sole_elements bytes v w p q = elements_impl.ghosts.elements_injective v w p.0 q.0 (sym p.1 ∙ q.1)
 
 -- AUTH_DATA has the content octets of id-pkinit-authData
 pub auth_data-is : oid_content oids.pkinit_auth_data ≡ AUTH_DATA

@@ -1,6 +1,7 @@
 pub mod AuthPacks
 pub mod AuthPackFields
 pub mod HasOutcomes
+pub mod Diagnoses
 pub mod Judging
 pub mod PkinitRows
 pub mod PkinitTable

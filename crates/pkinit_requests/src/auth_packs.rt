@@ -1,4 +1,5 @@
-//! The encoding of an AuthPack with any public value.
+//! The encoding of an AuthPack with any public value, and of its elements, whatever they are.
+use picky_asn1::wrapper::Asn1SequenceOf;
 use picky_asn1_der::{Asn1RawDer, Serialize};
 use pkinit_messages::AuthPack;
 
@@ -18,4 +19,22 @@ impl AuthPackEncoding for Asn1RawDer {
     ghost pack_tree = { ⟦<AuthPack<Asn1RawDer> as Serialize>⟧.tree };
 
     ghost pack_injective = { ⟦<AuthPack<Asn1RawDer> as Serialize>⟧.injective };
+}
+
+// How a SEQUENCE of elements of any type is encoded.
+pub(crate) trait ElementsEncoding {
+    ghost use Rattle.std.specs.Prelude.{List};
+    ghost use Rattle.asn1_elements.specs.Raw.{Raw};
+    ghost use Rattle.asn1_der.specs.Tree.{Tree};
+    ghost use Rattle.asn1_der.proofs.Spelling.{IsInjective};
+
+    ghost elements_tree: { List Raw → Tree };
+
+    ghost elements_injective: { IsInjective elements_tree };
+}
+
+impl ElementsEncoding for Asn1SequenceOf<Asn1RawDer> {
+    ghost elements_tree = { ⟦<Asn1SequenceOf<Asn1RawDer> as Serialize>⟧.tree };
+
+    ghost elements_injective = { ⟦<Asn1SequenceOf<Asn1RawDer> as Serialize>⟧.injective };
 }

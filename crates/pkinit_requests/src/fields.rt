@@ -40,7 +40,8 @@ pub(crate) fn auth_pack_fields<'a>(
     Ok(AuthPackFields { value, time, nonce })
 }
 
-fn value_in(pack: &AuthPack<Asn1RawDer>) -> Option<&Asn1RawDer>
+/// The element of clientPublicValue.
+pub(crate) fn value_in(pack: &AuthPack<Asn1RawDer>) -> Option<&Asn1RawDer>
     ensures { option_copied result ≡ value_in pack.now }
 {
     match &pack.client_public_value.0 {
@@ -49,16 +50,21 @@ fn value_in(pack: &AuthPack<Asn1RawDer>) -> Option<&Asn1RawDer>
     }
 }
 
+/// The time of ctime and cusec, or none where cusec is no part of a second.
 #[tactic(auto, unfolding(crate::specs::AuthPacks::time_in))]
-fn time_in(pack: &AuthPack<Asn1RawDer>) -> Option<Moment>
+pub(crate) fn time_in(pack: &AuthPack<Asn1RawDer>) -> Option<Moment>
     ensures { result ≡ time_in pack.now }
 {
     let authenticator = &pack.pk_authenticator.0;
     moment_at(authenticator.ctime.0.0, &authenticator.cusec.0)
 }
 
-// Whether paChecksum is the SHA-1 digest of the KDC-REQ-BODY.
-fn covers(alloc: Global, body: &KdcReqBody, pack: &AuthPack<Asn1RawDer>) -> Result<bool, AllocError>
+/// Whether paChecksum is the SHA-1 digest of the KDC-REQ-BODY.
+pub(crate) fn covers(
+    alloc: Global,
+    body: &KdcReqBody,
+    pack: &AuthPack<Asn1RawDer>,
+) -> Result<bool, AllocError>
     ensures { IfOk result (λ is. is ≡ covers body.now pack.now) }
 {
     let bytes = body_bytes(alloc, body)?;

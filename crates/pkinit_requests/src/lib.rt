@@ -8,10 +8,12 @@
 //! [`pk_as_rep`] returns the one encoding of a PA-PK-AS-REP with the realm's public value and the authenticator's nonce, which the
 //! certificate's holder signs. Where there is none, it returns error 60. Signed data of a content with a certificate's own bytes are
 //! one string of bytes (`one_written`). [`public_key_of`] returns the public key of which an element is the one encoding, if there is
-//! one.
+//! one. [`request_fault`] tells which row of a PA-PK-AS-REQ ends with KDC_ERR_PREAUTH_FAILED, where one does.
 #![tactic(auto)]
 
 mod auth_packs;
+mod diagnosis;
+mod fault;
 mod fields;
 mod judging;
 pub mod laws;
@@ -24,6 +26,8 @@ mod signed;
 mod signer;
 mod table;
 
+pub use diagnosis::request_fault;
+pub use fault::PkAsReqFault;
 pub use public_key::AgreementPublicKey;
 pub use realm::RealmPkinit;
 pub use reply::{pk_as_rep, public_key_of};

@@ -94,8 +94,8 @@ fn judge_content<K: KeyFunctions>(
     judged
 }
 
-// Whether the eContentType is id-pkinit-authData.
-fn is_auth_data(content: &SignedContent<'_>) -> bool
+/// Whether the eContentType is id-pkinit-authData.
+pub(crate) fn is_auth_data(content: &SignedContent<'_>) -> bool
     ensures { result ≡ is_auth_data content.now }
 {
     content.content_type().as_bytes() == AUTH_DATA.as_slice()
