@@ -9,7 +9,7 @@ use byte_streams::{Sink, Source};
 use krb_account_files::realm_of;
 use krb_file_realms::{AtPath, FileFault, FileRealm, Opens, Tells};
 use krb_frames::ServeFault;
-use krb_log::Logged;
+use krb_log::{Logged, RefusalsOfFile};
 use std::alloc::Global;
 use std::fs::{File, Files};
 use std::time::Clock;
@@ -82,6 +82,7 @@ fn serve_opened<
     if is_logged {
         let logged = Logged {
             responder: &realm,
+            refusals: &RefusalsOfFile { accounts },
             rt,
         };
         return serve_by_clock(rt.alloc(), rt, &logged, words, reader, writer);

@@ -1,2 +1,4 @@
+mod Told
+mod Opened
 mod Visible
 mod OneComponent

@@ -1,9 +1,10 @@
--- The text of an entry: exchange, client, service, answer and the client's means, with a blank between them.
-use Rattle.std.specs.Prelude.{◌≡◌, ℕ, List, ◌++◌, codes, Option, None, Some, string_bytes, String, refl}
+-- The text of an entry: exchange, client, service, answer, the client's means and the reason, with a blank between them.
+use Rattle.std.specs.Prelude.{◌≡◌, ℕ, ◌==◌, if◌then◌else◌, List, [], ◌++◌, codes, Option, None, Some, string_bytes, String, refl}
 use Rattle.std.specs.Global.{Global}
 use Rattle.std.specs.Fmt.{decimal}
 use Rattle.picky_asn1.specs.IntegerText.{integer_text}
 use Rattle.krb_constants.specs.ErrorNames.{error_name}
+use Rattle.krb_constants.specs.declared.error_codes.TheConstants.{KDC_ERR_PREAUTH_FAILED}
 use Rattle.krb_frames.specs.declared.fault.AnswerRefusal.{AnswerRefusal}
 use Rattle.krb_frames.specs.declared.fault.AnswerRefusal.TheVariants.{Unreadable, Memory, Accounts}
 use Rattle.krb_log.specs.declared.answer.Answer.{Answer}
@@ -14,7 +15,9 @@ use Rattle.krb_log.specs.declared.asked.Asked.TheVariants.{As, Tgs, Nothing}
 use Rattle.krb_log.specs.declared.asked.Means.{Means}
 use Rattle.krb_log.specs.declared.asked.Means.TheVariants as means
 use Rattle.krb_log.specs.declared.asked.Means.TheVariants.{Pkinit, Password}
+use Rattle.krb_log.specs.Reasons.{reason_text}
 use Rattle.krb_log.specs.declared.entry.Entry.{Entry}
+use Rattle.krb_log.specs.declared.reason.Reason.{Reason}
 
 -- a name, or a dash in its place
 abbrev pub shown_or_dash : Option (String Global) → List ℕ
@@ -32,10 +35,24 @@ asked_client (As names) = shown_or_dash names.client
 asked_client (Tgs names) = shown_or_dash names.client
 asked_client Nothing = codes "-"
 
--- the client of a ticket, else the one that the request names
-abbrev pub client_text : Asked → Answer → List ℕ
-client_text asked (Ticket granted) = string_bytes granted.client
-client_text asked _ = asked_client asked
+-- the client of a presented ticket, else the one that the request names
+abbrev pub told_client : Asked → Option (String Global) → List ℕ
+told_client asked None = asked_client asked
+told_client asked (Some client) = string_bytes client
+
+abbrev pub client_text_by : Answer → Asked → Option (String Global) → List ℕ
+client_text_by (Ticket granted) asked told = string_bytes granted.client
+client_text_by _ asked told = told_client asked told
+
+-- the client of a granted ticket, else of the presented one, else the one that the request names
+abbrev pub client_text : Entry → List ℕ
+client_text entry = client_text_by entry.answer entry.asked entry.explanation.client
+
+-- the error code of a refusal of which more can be told: of each to a TGS request, and of KDC_ERR_PREAUTH_FAILED to an AS request
+abbrev pub code_to_explain : Asked → Answer → Option ℕ
+code_to_explain (Tgs names) (Error code) = Some code
+code_to_explain (As names) (Error code) = if code == KDC_ERR_PREAUTH_FAILED then Some code else None
+code_to_explain _ _ = None
 
 -- the service that was asked for, or a dash
 abbrev pub service_text : Asked → List ℕ
@@ -79,8 +96,17 @@ by_text (As names) = means_text names.means
 by_text (Tgs names) = codes "ticket"
 by_text Nothing = codes "-"
 
+-- the reason between quotation marks
+abbrev pub reason_part : Option Reason → List ℕ
+reason_part None = []
+reason_part (Some reason) = codes " reason=\"" ++ reason_text reason ++ codes "\""
+
+-- how the client authenticates itself, and the reason
+abbrev pub means_part : List ℕ → Option Reason → List ℕ
+means_part by reason = codes "by=" ++ by ++ reason_part reason
+
 -- An entry's text.
 abbrev pub entry_text : Entry → List ℕ
 entry_text entry =
-    exchange_text entry.asked ++ codes " " ++ client_text entry.asked entry.answer ++ codes " " ++ service_text entry.asked
-    ++ codes " " ++ answer_text entry.answer ++ codes " by=" ++ by_text entry.asked
+    exchange_text entry.asked ++ codes " " ++ client_text entry ++ codes " " ++ service_text entry.asked
+    ++ codes " " ++ answer_text entry.answer ++ codes " " ++ means_part (by_text entry.asked) entry.explanation.reason

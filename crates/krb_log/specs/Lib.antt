@@ -1,4 +1,6 @@
 pub mod NameText
+pub mod Reasons
+pub mod Explanations
 pub mod Asked
 pub mod Answers
 pub mod Entries

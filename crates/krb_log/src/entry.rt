@@ -1,26 +1,31 @@
 //! An entry of the log.
 ghost use Rattle.std.specs.Prelude.{◌≡◌, IfOk};
 ghost use Rattle.krb_log.specs.Entries.{IsEntry};
-ghost use Rattle.krb_log.specs.EntryText.{by_text, client_text, exchange_text, means_text, refusal_text, service_text, shown_or_dash};
+ghost use Rattle.krb_log.specs.EntryText.{asked_client, by_text, client_text, code_to_explain, exchange_text, means_text, refusal_text, service_text, shown_or_dash};
 
 use crate::answer::{Answer, Granted};
 use crate::asked::{Asked, Means, Names};
+use crate::explanation::Explanation;
+use crate::reason::Reason;
+use krb_constants::error_codes::KDC_ERR_PREAUTH_FAILED;
 use krb_constants::error_names::error_name;
 use krb_frames::AnswerRefusal;
 use std::alloc::{AllocError, Global};
 use std::fmt;
 
-/// What a message asked for, and what it was answered.
+/// What a message asked for, what it was answered, and what is told of a refusal.
 #[derive(Debug, Drop)]
 pub struct Entry {
     /// What it asked for.
     pub asked: Asked,
     /// What it was answered.
     pub answer: Answer,
+    /// What is told of a refused request beside its error code.
+    pub explanation: Explanation,
 }
 
 impl Entry {
-    /// Returns the entry of a message and what it was answered. It fails only if memory runs out.
+    /// Returns the entry of a message and what it was answered, without an explanation. It fails only if memory runs out.
     pub fn of(
         alloc: Global,
         message: &[u8],
@@ -30,11 +35,27 @@ impl Entry {
     {
         let asked = Asked::of(alloc, message)?;
         let answer = Answer::of(alloc, answered)?;
-        Ok(Entry { asked, answer })
+        Ok(Entry {
+            asked,
+            answer,
+            explanation: Explanation::none(),
+        })
+    }
+
+    /// Returns the error code of a refusal of which more can be told: of each to a TGS request, and of KDC_ERR_PREAUTH_FAILED to an AS
+    /// request.
+    pub fn code_to_explain(&self) -> Option<u32>
+        ensures { result ≡ code_to_explain self.now.asked self.now.answer }
+    {
+        match (&self.asked, &self.answer) {
+            (Asked::Tgs(_), Answer::Error(code)) => Some(*code),
+            (Asked::As(_), Answer::Error(code)) if *code == KDC_ERR_PREAUTH_FAILED => Some(*code),
+            _ => None,
+        }
     }
 }
 
-/// The exchange, the client, the service, the answer, and how the client authenticates itself.
+/// The exchange, the client, the service, the answer, how the client authenticates itself, and the reason if there is one.
 impl fmt::Display for Entry {
     ghost use Rattle.std.specs.Prelude.{Some};
     ghost use Rattle.krb_log.specs.EntryText.{entry_text};
@@ -43,11 +64,14 @@ impl fmt::Display for Entry {
 
     fn fmt<W: fmt::Write>(&self, f: &mut fmt::Formatter<W>) -> fmt::Result {
         let exchange = exchange_of(&self.asked);
-        let client = client_of(&self.asked, &self.answer);
+        let client = client_of(self);
         let service = service_of(&self.asked);
         let answer = &self.answer;
-        let by = by_text(&self.asked);
-        write!(f, "{exchange} {client} {service} {answer} by={by}")
+        let means = MeansPart {
+            by: by_text(&self.asked),
+            reason: self.explanation.reason,
+        };
+        write!(f, "{exchange} {client} {service} {answer} {means}")
     }
 }
 
@@ -103,6 +127,44 @@ impl fmt::Display for CodeName {
     }
 }
 
+// How the client authenticates itself, and the reason of a refusal.
+#[derive(Clone, Copy)]
+struct MeansPart {
+    by: &'static str,
+    reason: Option<Reason>,
+}
+
+impl fmt::Display for MeansPart {
+    ghost use Rattle.std.specs.Prelude.{Some};
+    ghost use Rattle.krb_log.specs.EntryText.{means_part};
+
+    ghost output = { λ part. Some (means_part part.by.now part.reason) };
+
+    fn fmt<W: fmt::Write>(&self, f: &mut fmt::Formatter<W>) -> fmt::Result {
+        let by = self.by;
+        let reason = ReasonPart(self.reason);
+        write!(f, "by={by}{reason}")
+    }
+}
+
+// The reason of a refusal, if there is one, which prints between quotation marks.
+#[derive(Clone, Copy)]
+struct ReasonPart(Option<Reason>);
+
+impl fmt::Display for ReasonPart {
+    ghost use Rattle.std.specs.Prelude.{Some};
+    ghost use Rattle.krb_log.specs.EntryText.{reason_part};
+
+    ghost output = { λ part. Some (reason_part part.0) };
+
+    fn fmt<W: fmt::Write>(&self, f: &mut fmt::Formatter<W>) -> fmt::Result {
+        match self.0 {
+            Some(reason) => write!(f, " reason=\"{reason}\""),
+            None => Ok(()),
+        }
+    }
+}
+
 // Returns the name of the exchange, or `-`.
 fn exchange_of(asked: &Asked) -> &'static str
     ensures { result.now ≡ exchange_text asked.now }
@@ -114,14 +176,24 @@ fn exchange_of(asked: &Asked) -> &'static str
     }
 }
 
-// Returns the client: of a ticket that of its reply, else that of the request, or `-`.
-fn client_of<'a>(asked: &'a Asked, answer: &'a Answer) -> &'a str
-    ensures { result.now ≡ client_text asked.now answer.now }
+// Returns the client: of a granted ticket that of the reply, else that of the presented ticket, else that of the request, or `-`.
+fn client_of(entry: &Entry) -> &str
+    ensures { result.now ≡ client_text entry.now }
 {
-    match (answer, asked) {
+    match (&entry.answer, &entry.explanation.client) {
         (Answer::Ticket(granted), _) => granted.client.as_str(),
-        (_, Asked::As(names)) | (_, Asked::Tgs(names)) => shown(&names.client),
-        (_, Asked::Nothing) => "-",
+        (_, Some(client)) => client.as_str(),
+        (_, None) => asked_client(&entry.asked),
+    }
+}
+
+// Returns the client that a request names, or `-`.
+fn asked_client(asked: &Asked) -> &str
+    ensures { result.now ≡ asked_client asked.now }
+{
+    match asked {
+        Asked::As(names) | Asked::Tgs(names) => shown(&names.client),
+        Asked::Nothing => "-",
     }
 }
 

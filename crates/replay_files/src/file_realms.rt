@@ -45,7 +45,7 @@ fn is_answered(rt: &HostRuntime, path: &str, row: &mut Row<'_>) -> anyhow::Resul
     let message = row.octets(rt.alloc());
     let (reply, entry) = (row.word(), row.word());
     let answered = reply_of(rt, path, &message)?;
-    let logged = entry_of(rt.alloc(), &message, &answered)?;
+    let logged = entry_of(rt, path, &message, &answered)?;
     let text = text_of(rt.alloc(), &answered)?;
     Ok(text.as_str() == reply && logged.as_str() == entry)
 }

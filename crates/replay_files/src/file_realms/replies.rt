@@ -3,7 +3,7 @@
 use anyhow::{Context, bail};
 use krb_file_realms::{AtPath, FileRealm, Untold};
 use krb_frames::{AnswerRefusal, Responder};
-use krb_log::Entry;
+use krb_log::{Entry, Explains, RefusalsOfFile};
 use krb_time::Moment;
 use std::alloc::Global;
 
@@ -33,14 +33,22 @@ fn words() -> [u8; 128] {
     words
 }
 
-/// The entry of a message and its answer, as a line of the log has it.
+/// The entry of a message and its answer, as a line of the log has it, with what the file with this path tells of a refusal.
 pub(crate) fn entry_of(
-    alloc: Global,
+    rt: &HostRuntime,
+    path: &str,
     message: &[u8],
     answered: &Result<Vec<u8>, AnswerRefusal>,
 ) -> anyhow::Result<String> {
-    let entry = Entry::of(alloc, message, answered)?;
-    let text = entry.to_string(alloc)?;
+    let mut entry = Entry::of(rt.alloc(), message, answered)?;
+    if let Some(code) = entry.code_to_explain() {
+        let accounts = AtPath { files: rt, path };
+        let refusals = RefusalsOfFile {
+            accounts: &accounts,
+        };
+        entry.explanation = refusals.explain(rt.alloc(), message, code);
+    }
+    let text = entry.to_string(rt.alloc())?;
     Ok(text)
 }
 
