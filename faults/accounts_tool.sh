@@ -71,7 +71,7 @@ assert all(bin(octet).count("1") % 2 == 1 for octet in next(it for it in keys if
     says 0 "" add -k accounts '#ops'
     says 0 "#ops	" list accounts '#*'
     says 0 "" make accounts accounts.cdb
-    sed "s/^$own/#disabled	&/" accounts >accounts_disabled
+    sed "s|^$own|#disabled	&|" accounts >accounts_disabled
     sed "/^krbtgt/d" accounts >accounts_without
     sed "s/4558414d/4558418d/" accounts >accounts_salt
     for command in "make T accounts.cdb" "check T accounts.cdb" "warnings T"; do
