@@ -14,7 +14,7 @@ KEY_SIZES = {16: 24, 17: 16, 18: 32, 19: 16, 20: 32}  # by the numbers of the su
 SKEW_LIMIT, LIFETIME_LIMIT = 86_400, 31_536_000
 
 Account = collections.namedtuple("Account", "suite key kvno salt")  # salt: octets or None
-Realm = collections.namedtuple("Realm", "name skew lifetime")
+Realm = collections.namedtuple("Realm", "name skew lifetime policy", defaults=[0])  # policy: 1 limits triple DES
 
 
 class Damaged(Exception):
@@ -32,7 +32,7 @@ def account_record(account):
 
 
 def realm_record(realm):
-    return struct.pack("<BIIII", VERSION, realm.skew, realm.lifetime, 0, 0) + realm.name
+    return struct.pack("<BIIII", VERSION, realm.skew, realm.lifetime, 0, realm.policy) + realm.name
 
 
 def hash_of(key):
@@ -142,13 +142,13 @@ def account_in(data):
 def realm_in(data):
     if len(data) < 17:
         raise Damaged
-    version, skew, lifetime, anchor, certificate = struct.unpack("<BIIII", data[:17])
+    version, skew, lifetime, pkinit, policy = struct.unpack("<BIIII", data[:17])
     name = data[17:]
-    if version != VERSION or anchor or certificate or skew > SKEW_LIMIT or not 1 <= lifetime <= LIFETIME_LIMIT:
+    if version != VERSION or pkinit or policy > 1 or skew > SKEW_LIMIT or not 1 <= lifetime <= LIFETIME_LIMIT:
         raise Damaged
     if not 1 <= len(name) <= 255 or max(name) > 127:
         raise Damaged
-    return Realm(name, skew, lifetime)
+    return Realm(name, skew, lifetime, policy)
 
 
 def told(read, *arguments):

@@ -217,6 +217,7 @@ def parts_read(octets):
 
 
 def main(what="all", *words):
+    os.umask(0o077)  # krb_kdcd warns of a database that others may read
     try:
         if what in ("replace", "all"):
             replace()
