@@ -3,7 +3,7 @@
 usage: listener.py cost [COMMAND ARGUMENT..]     COMMAND answers frames; without it that is a stub in C, or in python3
        listener.py kdcd [ACCOUNTS..]             the same before krb_kdcd, which KRB_KDCD names
 """
-import collections, contextlib, itertools, os, shutil, socket, subprocess, sys, tempfile, time
+import collections, contextlib, functools, itertools, os, shutil, socket, statistics, subprocess, sys, tempfile, time
 
 import kdc, replies
 
@@ -15,6 +15,8 @@ CLIENTS, OF_EACH = 16, 3_000  # at once, and how many exchanges each has
 # A request of an unknown client, as a stock kinit sends it. A realm of any name answers it by a KRB-ERROR.
 RECORDED = os.path.join(TOP, "crates/krb_realmd/stdin")
 REPLY = 600  # octets of the stub's replies, as those of an AS-REP
+# Where systemd looks for programs. The python3 there is the system's, as krb5kdc is: another one may take a tenth more or less.
+PATH_OF_UNITS = "/usr/local/sbin:/usr/local/bin:/usr/sbin:/usr/bin"
 STUB = r"""
 #include <stdio.h>
 #include <string.h>
@@ -66,7 +68,7 @@ def listening(folder, command, workers=WORKERS):
     port, log = kdc.free_port(), os.path.join(folder, "log")
     words = [f"{TOP}/bridges/krb_listen", "--listen", f"{HOST}:{port}", "--workers", str(workers), "--", *command]
     with open(log, "w+") as said:
-        process = subprocess.Popen(words, stderr=said)
+        process = subprocess.Popen(words, stderr=said, env=dict(os.environ, PATH=PATH_OF_UNITS))
         try:
             kdc.wait_for(port, process, said)
             yield process.pid, port
@@ -77,9 +79,13 @@ def listening(folder, command, workers=WORKERS):
 
 
 def used(process):
-    """Seconds of processor of a process and of its children."""
-    with open(f"/proc/{process}/task/{process}/children") as it:
-        return sum(sum(kdc.processor_seconds(number)) for number in [process, *map(int, it.read().split())])
+    """Seconds of processor of a process and of its children, as the scheduler counts them."""
+    seconds = 0
+    with open(f"/proc/{process}/task/{process}/children") as children:
+        for number in [process, *map(int, children.read().split())]:
+            with open(f"/proc/{number}/schedstat") as it:
+                seconds += int(it.read().split()[0]) / 1e9
+    return seconds
 
 
 NONCE = bytes.fromhex("02040100 0000")  # of four octets, so that requests can be numbered
@@ -137,12 +143,16 @@ Measured = collections.namedtuple("Measured", "pace cost")  # exchanges a second
 
 
 def measure(name, process, requests, ask):
+    return told(name, one_after_another(process, requests, ask))
+
+
+def one_after_another(process, requests, ask):
     """Exchanges of clients that come one after another."""
     before, began = used(process), time.monotonic()
     answered = sum(bool(ask(it)) for it in requests)
     measured = measured_since(began, before, process, requests)
     assert answered == len(requests), f"{len(requests) - answered} requests had no reply"
-    return told(name, measured)
+    return measured
 
 
 def measured_since(began, before, process, requests):
@@ -176,7 +186,7 @@ def cost(folder, command):
         parts = f"UDP {udp.cost / stock[0].cost:.2f}, TCP {tcp.cost / stock[1].cost:.2f}"
         print(f"in parts of krb5kdc's: {parts}. A stub's reply takes no cryptography", flush=True)
     with listening(folder, command) as (process, port):
-        many("krb_listen", folder, process, port, requests[: CLIENTS * OF_EACH])
+        told(f"krb_listen, UDP, {CLIENTS} clients at once", at_once(folder, process, port, requests[: CLIENTS * OF_EACH]))
 
 
 def has_stock():
@@ -195,8 +205,8 @@ for at in range(0, len(octets), size):
 """
 
 
-def many(name, folder, process, port, requests, kind=0x7E):
-    """Exchanges a second of clients at once, over UDP: each has its own requests, of one length, and takes replies of one kind."""
+def at_once(folder, process, port, requests, kind=0x7E):
+    """Exchanges of clients at once, over UDP: each has its own requests, of one length, and takes replies of one kind."""
     clients = []
     for number in range(CLIENTS):
         own = os.path.join(folder, f"requests{number}")
@@ -207,7 +217,7 @@ def many(name, folder, process, port, requests, kind=0x7E):
     statuses = [it.wait() for it in [subprocess.Popen(words) for words in clients]]
     measured = measured_since(began, before, process, requests)
     assert not any(statuses), "a client had no reply"
-    return told(f"{name}, UDP, {CLIENTS} clients at once", measured)
+    return measured
 
 
 # krb_kdcd beside krb5kdc
@@ -252,32 +262,62 @@ def stock_listening(environment, port, processors, processes):
 
 
 LIMITS = {"UDP": 1, "TCP": 1}  # of the processor time of an exchange, in parts of krb5kdc's
-AT_ONCE = "UDP at once"
+AT_ONCE = f"UDP, {CLIENTS} clients at once"
+# The rounds of each measure, and the exchanges of a round. A machine's speed changes within seconds, so KDCs take rounds in turn.
+ROUNDS = {"UDP": (40, 500), "TCP": (40, 250), AT_ONCE: (6, CLIENTS * 500)}
+Standing = collections.namedtuple("Standing", "name process port")  # a KDC
 
 
-def exchanges(name, folder, process, port, keytab):
-    """AS exchanges over UDP, over TCP, and over UDP of clients at once."""
-    ask, ticket = asking_udp(port), bytes([kdc.TICKET])
-
-    def requests(count):  # of this moment: on a busy machine each measure takes minutes, and a KDC takes a time of 5 minutes before
-        return kdc.numbered(kdc.request_of_kinit(folder, port, keytab), count)
-
-    return {"UDP": measure(f"{name}, UDP", process, requests(EXCHANGES["UDP"]), lambda it: ask(it)[:1] == ticket),
-            "TCP": measure(f"{name}, TCP", process, requests(EXCHANGES["TCP"]), lambda it: over_tcp(port, it)[:1] == ticket),
-            AT_ONCE: many(name, folder, process, port, requests(CLIENTS * OF_EACH), kdc.TICKET)}
+def exchanges(way, folder, standing, requests):
+    """AS exchanges of a KDC in one round."""
+    if way == AT_ONCE:
+        return at_once(folder, standing.process, standing.port, requests, kdc.TICKET)
+    ask = asking_udp(standing.port) if way == "UDP" else functools.partial(over_tcp, standing.port)
+    return one_after_another(standing.process, requests, lambda it: ask(it)[0] == kdc.TICKET)
 
 
-def compare(own, stock, processors, processes):
-    """Prints how krb_kdcd compares to krb5kdc, and gives what it should keep to and doesn't."""
-    costs = {way: own[way].cost / stock[way].cost for way in own}
-    paces = {way: own[way].pace / stock[way].pace for way in own}
-    for what, parts in ("processor time", costs), ("exchanges a second", paces):
-        print(f"in parts of krb5kdc's {what}: " + ", ".join(f"{way} {part:.2f}" for way, part in parts.items()), flush=True)
-    over = [f"{way} costs {costs[way]:.2f} times krb5kdc's, with {processors} processors: expected {limit} at most"
-            for way, limit in LIMITS.items() if costs[way] > limit]
-    if processors > 1 and processes == 1 and paces[AT_ONCE] <= 1:
-        over.append(f"{paces[AT_ONCE]:.2f} times krb5kdc's exchanges a second, with {processors} processors: expected more than 1")
+def in_turn(way, folder, kdcs, keytab):
+    """The rounds of these KDCs: in each what one after another took."""
+    rounds, size = ROUNDS[way]
+    # A KDC takes a time of five minutes before, so each measure has requests of its own.
+    asked = [kdc.numbered(kdc.request_of_kinit(folder, it.port, keytab), rounds * size) for it in kdcs]
+    return [[exchanges(way, folder, it, own[begin : begin + size]) for it, own in zip(kdcs, asked)] for begin in range(0, rounds * size, size)]
+
+
+def medians(rounds):
+    """For each KDC what it took, as medians of all rounds."""
+    return [Measured(*map(statistics.median, zip(*of_one))) for of_one in zip(*rounds)]
+
+
+def parts(rounds):
+    """What the first took in parts of the second, as medians of all rounds."""
+    own, stock = zip(*rounds)
+    return Measured(*(statistics.median(a / b for a, b in zip(*of_all)) for of_all in zip(zip(*own), zip(*stock))))
+
+
+def compare(folder, kdcs, keytab, processors):
+    """Prints how krb_kdcd compares to krb5kdc, if that is there, and gives what it should keep to and doesn't."""
+    over = []
+    for way in ROUNDS:
+        rounds = in_turn(way, folder, kdcs, keytab)
+        for it, measured in zip(kdcs, medians(rounds)):
+            told(f"{it.name}, {way}", measured)
+        if len(kdcs) > 1:
+            over += beyond(way, kdcs[1].name, parts(rounds), processors)
     return over
+
+
+def beyond(way, stock, of_stock, processors):
+    """Prints both in parts of krb5kdc's, and gives what isn't kept to."""
+    print(f"in parts of {stock}, {way}: {of_stock.cost:.2f} of the processor time, {of_stock.pace:.2f} of the exchanges a second", flush=True)
+    if of_stock.cost > LIMITS.get(way, of_stock.cost):
+        return [f"{way}: {of_stock.cost:.2f} times the processor time of {stock}, with {processors} processors: expected {LIMITS[way]} at most"]
+    if way == AT_ONCE and processors > 1 and stock == STOCK and of_stock.pace <= 1:
+        return [f"{way}: {of_stock.pace:.2f} times the exchanges of {stock}, with {processors} processors: expected more than 1"]
+    return []
+
+
+STOCK = "krb5kdc of one process"
 
 
 def beside_stock(folder, count):
@@ -287,12 +327,14 @@ def beside_stock(folder, count):
     environment = kdc.make_stock(folder, stock_port, count) if has_stock() else None
     for processors in (1, 4) if len(os.sched_getaffinity(0)) >= 4 else (1,):
         print(f"with {count} accounts and {processors} processors:", flush=True)
-        with kdcd_listening(folder, command, processors) as (process, port):
-            own = exchanges("krb_kdcd behind krb_listen", folder, process, port, keytab)
-        for processes in sorted({1, processors}) if environment else ():
-            with stock_listening(environment, stock_port, processors, processes) as (process, port):
-                stock = exchanges(f"krb5kdc, processes: {processes}", folder, process, port, keytab)
-            over += compare(own, stock, processors, processes)
+        with kdcd_listening(folder, command, processors) as listening_at:
+            own = Standing("krb_kdcd behind krb_listen", *listening_at)
+            for processes in sorted({1, processors}) if environment else ():
+                with stock_listening(environment, stock_port, processors, processes) as standing_at:
+                    stock = Standing(STOCK if processes == 1 else f"krb5kdc of {processes} processes", *standing_at)
+                    over += compare(folder, [own, stock], keytab, processors)
+            if not environment:
+                compare(folder, [own], keytab, processors)
     return over
 
 

@@ -311,19 +311,31 @@ class Transport(Case):
 
     def test_several_messages_of_one_connection(self):
         self.start("--workers", "3")
-        messages = [b"%d " % number * number for number in range(1, 200)]
+        messages = [b"%d " % number * number for number in range(1, 100)]
         stream = self.tcp()
         stream.sendall(b"".join(map(framed, messages)))
         self.assertEqual([answer(stream) for _ in messages], messages)
+        self.assertIsNone(answer(stream))
+
+    def test_connection_ends_with_the_reply(self):
+        self.start()
+        stream = self.tcp()
+        stream.sendall(framed(REQUEST))
+        self.assertEqual((answer(stream), answer(stream)), (REQUEST, None))
+        stream = self.tcp()
+        stream.sendall(framed(REQUEST) + framed(REQUEST)[:1])
+        self.assertEqual(answer(stream), REQUEST)
+        stream.sendall(framed(REQUEST)[1:])
+        self.assertEqual((answer(stream), answer(stream)), (REQUEST, None))
 
     def test_message_in_pieces(self):
         self.start()
         stream = self.tcp()
         stream.setsockopt(socket.IPPROTO_TCP, socket.TCP_NODELAY, 1)
-        for octet in framed(REQUEST) * 2:
+        for octet in framed(REQUEST):
             stream.sendall(bytes([octet]))
             time.sleep(0.01)
-        self.assertEqual([answer(stream), answer(stream)], [REQUEST, REQUEST])
+        self.assertEqual(answer(stream), REQUEST)
 
     def test_client_that_sends_no_more(self):
         self.start()
@@ -334,14 +346,12 @@ class Transport(Case):
 
     def test_client_that_takes_its_replies_late(self):
         self.start()
-        stream, message = self.tcp(), b"x" * 65536
-        sender = threading.Thread(target=stream.sendall, args=(framed(message) * 150,))
-        sender.start()
+        stream = self.tcp()
+        stream.sendall(b"".join(framed(b"reply 60000 %d" % it) for it in range(150)))
         time.sleep(1)
         self.is_served()
-        for _ in range(150):
-            self.assertEqual(answer(stream), message)
-        sender.join()
+        for number in range(150):
+            self.assertEqual(answer(stream), (b"%d" % number).ljust(60_000, b"\0"))
 
     def test_no_request(self):
         self.start("--workers", "1")
@@ -389,8 +399,9 @@ class Limits(Case):
         self.assertEqual((answer(silent), answer(slow)), (None, None))
         self.assertTrue(0.9 < time.monotonic() - begin < 10)
         stream = self.tcp()
+        stream.sendall(framed(REQUEST)[:1])
         for _ in range(4):
-            stream.sendall(framed(REQUEST))
+            stream.sendall(framed(REQUEST)[1:] + framed(REQUEST)[:1])
             self.assertEqual(answer(stream), REQUEST)
             time.sleep(0.4)
 
@@ -421,12 +432,12 @@ class Limits(Case):
         held = [
             it for number in range(20) for it in self.held(1, source=f"127.0.1.{number % 5 + 1}")
         ]
-        held[0].sendall(framed(REQUEST)[1:])
+        held[0].sendall(framed(REQUEST)[1:] + framed(REQUEST)[:1])
         self.assertEqual(answer(held[0]), REQUEST)  # so the second is the oldest
         last = self.tcp()
         last.sendall(framed(REQUEST))
         self.assertEqual((answer(last), answer(held[1])), (REQUEST, None))
-        held[0].sendall(framed(REQUEST))
+        held[0].sendall(framed(REQUEST)[1:])
         self.assertEqual(answer(held[0]), REQUEST)
         self.wait_for(r"1 connections closed as the oldest beyond 20")
 
