@@ -12,7 +12,7 @@ CRATES := $(sort $(notdir $(patsubst %/src,%,$(wildcard crates/*/src))))
 REALM := out/realm
 
 .DEFAULT_GOAL := help
-.PHONY: help try messages certificate test listener imports programs check gate faults settings build install uninstall run clients move logins pkinit gss initiator services bench plant fmt docs budget crate-named kit-there bridge-there
+.PHONY: help try messages certificate test listener imports programs check gate faults settings build install uninstall run clients move logins pkinit gss initiator services bench plant fmt docs definitions budget crate-named kit-there bridge-there
 
 help: ## list the targets
 	@sed -n 's/^\([a-z]*\):[^#]*## /\1\t/p' Makefile | expand -t 14
@@ -106,6 +106,9 @@ docs: ## check that the documents name what exists, that no number of a standard
 	tools/numbers
 	tools/oids --check
 	python3 -B bench/gate.py --budget
+
+definitions: ## print the definitions that contracts of public calls cite, each with its file: make definitions | less
+	@tools/pages --definitions
 
 budget: kit-there ## the gate in a clean clone, with its minutes crate by crate
 	bench/gate.sh
