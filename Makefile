@@ -99,12 +99,13 @@ plant: kit-there crate-named ## list wrong bodies that a crate's contracts let t
 fmt: kit-there $(if $(CRATE),crate-named) ## lay out the files of each crate, or of one: make fmt CRATE=krb_tgs
 	for crate in $(or $(CRATE),$(CRATES)); do (cd crates/$$crate && $(RT) fmt) || exit 1; done
 
-docs: ## check that the documents name what exists, that no number of a standard stands bare, and that the written pages and identifiers are what their sources say
+docs: ## check that the documents name what exists, that no number of a standard stands bare, and that written pages, identifiers and records are what their sources say
 	tools/items.sh >/dev/null
 	tools/docpaths
 	tools/pages --check
 	tools/numbers
 	tools/oids --check
+	tools/record --check
 	python3 -B bench/gate.py --budget
 
 budget: kit-there ## the gate in a clean clone, with its minutes crate by crate
