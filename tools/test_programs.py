@@ -61,7 +61,7 @@ class Copy(unittest.TestCase):
             if name in ("tools", "bridges", "examples", "docs"):
                 shutil.copytree(f"{TOP}/{name}", f"{self.top}/{name}", symlinks=True)
             elif os.path.isfile(f"{TOP}/{name}"):
-                shutil.copy(f"{TOP}/{name}", self.top)
+                shutil.copy(f"{TOP}/{name}", self.top, follow_symlinks=False)
         for crate in os.listdir(f"{TOP}/crates"):
             os.makedirs(f"{self.top}/crates/{crate}")
             os.symlink(f"{TOP}/crates/{crate}/src", f"{self.top}/crates/{crate}/src")
@@ -100,6 +100,13 @@ class Starts(Copy):
             os.symlink(f"{self.top}/{name}", f"{self.folder}/{name}")
             wrote, said = self.run_in(f"{self.folder}/{name}", "list", "two words")
             self.assertEqual((wrote[0], said), ("arguments: list two words", []))
+            os.symlink(name, f"{self.folder}/{name[4:]}")  # a link of another name, which leads to that one
+            self.assertEqual(self.run_in(f"{self.folder}/{name[4:]}", "list")[0][0], "arguments: list")
+
+    def test_what_is_no_start_script(self):
+        _, said = self.run_in(f"{self.top}/tools/run_program", "krb_login", status=2)
+        self.assertEqual(len(said), 1)
+        self.assertIn("expected a link of a program's name: krb_accounts, ", said[0])
 
     def test_the_status_is_the_programs(self):
         self.build_stubs()
