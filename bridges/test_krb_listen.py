@@ -1013,6 +1013,14 @@ class HandedOver(Case):
         files = [os.readlink(f"{folder}/{it}") for it in os.listdir(folder)]
         self.assertFalse([it for it in files if "socket" in it], files)
 
+    def test_what_is_no_number_of_sockets(self):
+        script = 'export LISTEN_PID=$$ LISTEN_FDS="$1"; shift; exec "$@"'
+        for count in "x", "", "1.5", "1", "99999999999":  # descriptor 3 isn't open
+            command = ["sh", "-c", script, "sh", count, sys.executable, PROGRAM, "--", "cat"]
+            ran = subprocess.run(command, capture_output=True, text=True, timeout=60)
+            self.assertRegex(ran.stderr, rf"^krb_listen: LISTEN_FDS={count}: expected .*\n$")
+            self.assertEqual(ran.returncode, 1)
+
 
 def run(program, *words):
     """Returns the status of a program in Python, its standard output and its standard error."""
