@@ -464,6 +464,30 @@ class Limits(Case):
         # Replies have 60,000 octets, of which it takes none.
         self.assertTrue(1 <= count() <= 4, count())
 
+    def processor_seconds(self):
+        """Returns how long the program has run on a processor."""
+        with open(f"/proc/{self.process.pid}/stat", encoding="ascii") as it:
+            fields = it.read().rsplit(")", 1)[1].split()
+        return sum(map(int, fields[11:13])) / os.sysconf("SC_CLK_TCK")
+
+    def test_no_descriptor_is_left(self):
+        self.start("--workers", "1")
+        self.is_served()
+        limit = self.process.pid, resource.RLIMIT_NOFILE
+        soft, hard = resource.prlimit(*limit)
+        resource.prlimit(*limit, (3, hard))
+        stream = self.tcp()
+        stream.sendall(framed(REQUEST))
+        self.wait_for("krb_listen: a connection waits: Too many open files: expected ")
+        begin = self.processor_seconds()
+        time.sleep(3)
+        self.assertLess(self.processor_seconds() - begin, 0.5)
+        self.assertEqual(self.ask_udp(REQUEST), REQUEST)
+        resource.prlimit(*limit, (soft, hard))
+        self.assertEqual(answer(stream), REQUEST)
+        self.is_served()
+        self.assertEqual(self.count_in_log("a connection waits"), 1)
+
     def descriptors_needed(self, listeners, workers):
         """Returns how many descriptors the program asks for, where it has 300."""
         command = [PROGRAM, *ANY_PORT * listeners, "--workers", str(workers), "--", "cat"]
