@@ -1195,6 +1195,8 @@ class Connect(unittest.TestCase):
         for seconds in "x", "0", "-1", "nan", "inf":
             self.is_refused("--seconds", seconds, "h", *cat)
         self.is_refused("--seconds", *cat)
+        for port in "0", "65536", "99999", "9" * 5000:
+            self.is_refused(f"127.0.0.1:{port}", *cat)
 
     def test_first_that_answers(self):
         self.assertEqual(self.ask(self.kdc(reply)), (0, "", ""))
