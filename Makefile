@@ -12,7 +12,7 @@ CRATES := $(sort $(notdir $(patsubst %/src,%,$(wildcard crates/*/src))))
 REALM := out/realm
 
 .DEFAULT_GOAL := help
-.PHONY: help try messages certificate test listener imports programs check gate faults settings build install uninstall run clients move logins pkinit gss initiator services bench plant fmt docs definitions budget crate-named kit-there bridge-there
+.PHONY: help try messages certificate test listener imports programs check gate faults settings build install uninstall run clients move logins pkinit gss initiator services bench plant fmt docs definitions budget crate-named kit-there port-free
 
 help: ## list the targets
 	@sed -n 's/^\([a-z]*\):[^#]*## /\1\t/p' Makefile | expand -t 14
@@ -35,7 +35,7 @@ listener: ## test krb_listen and krb_connect of bridges/, over stubs: a minute
 imports: ## test examples/mit_accounts, which reads keytabs of MIT's realms: ten seconds
 	python3 -B examples/test_mit_accounts.py
 
-programs: ## test the start scripts, make install and the manual pages over programs that are stubs: ten seconds
+programs: ## test the start scripts, make install, make run and the manual pages over programs that are stubs: ten seconds
 	python3 -B tools/test_programs.py
 
 check: kit-there crate-named ## prove one crate and what it stands on: make check CRATE=krb_tgs
@@ -61,13 +61,13 @@ install: build ## install the programs, the bridges with their units, manual pag
 uninstall: ## take away what make install installed: make uninstall PREFIX=/usr/local DESTDIR=
 	@tools/install --remove "$(PREFIX)" "$(DESTDIR)"
 
-run: bridge-there $(REALM)/settings.toml ## serve a realm to stock clients on 127.0.0.1 (PORT=8888); proves the program first
-	printf '%s\n' '[libdefaults]' 'default_realm = EXAMPLE.COM' 'dns_lookup_kdc = false' 'udp_preference_limit = 1' \
-		'dns_canonicalize_hostname = false' '[realms]' 'EXAMPLE.COM = {' 'kdc = 127.0.0.1:$(PORT)' '}' >$(REALM)/krb5.conf
-	@RT="$(RT)" tools/build krb_realm
+run: port-free $(REALM)/accounts ## serve a realm to stock clients on 127.0.0.1 over TCP and UDP (PORT=8888); proves the programs first
+	printf '%s\n' '[libdefaults]' 'default_realm = EXAMPLE.COM' 'dns_lookup_kdc = false' 'dns_canonicalize_hostname = false' \
+		'[realms]' 'EXAMPLE.COM = {' 'kdc = 127.0.0.1:$(PORT)' '}' >$(REALM)/krb5.conf
+	@RT="$(RT)" tools/build krb_accounts krb_kdcd
+	./krb_accounts make $(REALM)/accounts $(REALM)/accounts.cdb
 	@echo "Then, in another terminal: export KRB5_CONFIG='$(CURDIR)/$(REALM)/krb5.conf'; kinit user"
-	socat TCP-LISTEN:$(PORT),bind=127.0.0.1,fork,reuseaddr \
-		EXEC:"crates/krb_realmd/out/krb_realmd $(REALM)/settings.toml /dev/urandom now"
+	bridges/krb_listen --listen 127.0.0.1:$(PORT) -- crates/krb_kdcd/out/krb_kdcd $(REALM)/accounts.cdb /dev/urandom --log
 
 clients: ## log in to the realm with stock clients of MIT and Heimdal, step by step
 	examples/real_clients.sh
@@ -99,12 +99,13 @@ plant: kit-there crate-named ## list wrong bodies that a crate's contracts let t
 fmt: kit-there $(if $(CRATE),crate-named) ## lay out the files of each crate, or of one: make fmt CRATE=krb_tgs
 	for crate in $(or $(CRATE),$(CRATES)); do (cd crates/$$crate && $(RT) fmt) || exit 1; done
 
-docs: ## check that the documents name what exists, that no number of a standard stands bare, and that the written pages and identifiers are what their sources say
+docs: ## check that the documents name what exists, that no number of a standard stands bare, and that written pages, identifiers and records are what their sources say
 	tools/items.sh >/dev/null
 	tools/docpaths
 	tools/pages --check
 	tools/numbers
 	tools/oids --check
+	tools/record --check
 	python3 -B bench/gate.py --budget
 
 definitions: ## print the definitions that contracts of public calls cite, each with its file: make definitions | less
@@ -120,10 +121,9 @@ crate-named:
 kit-there:
 	@tools/build --kit $(firstword $(RT))
 
-bridge-there:
-	@command -v socat >/dev/null || { echo "make: socat is missing (Debian: socat)" >&2; exit 2; }
+port-free:
 	@tools/free_port "$(PORT)"
 
-$(REALM)/settings.toml: | examples/settings.toml
+$(REALM)/accounts: | examples/accounts
 	mkdir -p $(REALM)
-	install -m 600 examples/settings.toml $@
+	install -m 600 examples/accounts $@

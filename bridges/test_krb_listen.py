@@ -464,6 +464,30 @@ class Limits(Case):
         # Replies have 60,000 octets, of which it takes none.
         self.assertTrue(1 <= count() <= 4, count())
 
+    def processor_seconds(self):
+        """Returns how long the program has run on a processor."""
+        with open(f"/proc/{self.process.pid}/stat", encoding="ascii") as it:
+            fields = it.read().rsplit(")", 1)[1].split()
+        return sum(map(int, fields[11:13])) / os.sysconf("SC_CLK_TCK")
+
+    def test_no_descriptor_is_left(self):
+        self.start("--workers", "1")
+        self.is_served()
+        limit = self.process.pid, resource.RLIMIT_NOFILE
+        soft, hard = resource.prlimit(*limit)
+        resource.prlimit(*limit, (3, hard))
+        stream = self.tcp()
+        stream.sendall(framed(REQUEST))
+        self.wait_for("krb_listen: a connection waits: Too many open files: expected ")
+        begin = self.processor_seconds()
+        time.sleep(3)
+        self.assertLess(self.processor_seconds() - begin, 0.5)
+        self.assertEqual(self.ask_udp(REQUEST), REQUEST)
+        resource.prlimit(*limit, (soft, hard))
+        self.assertEqual(answer(stream), REQUEST)
+        self.is_served()
+        self.assertEqual(self.count_in_log("a connection waits"), 1)
+
     def descriptors_needed(self, listeners, workers):
         """Returns how many descriptors the program asks for, where it has 300."""
         command = [PROGRAM, *ANY_PORT * listeners, "--workers", str(workers), "--", "cat"]
@@ -1013,6 +1037,14 @@ class HandedOver(Case):
         files = [os.readlink(f"{folder}/{it}") for it in os.listdir(folder)]
         self.assertFalse([it for it in files if "socket" in it], files)
 
+    def test_what_is_no_number_of_sockets(self):
+        script = 'export LISTEN_PID=$$ LISTEN_FDS="$1"; shift; exec "$@"'
+        for count in "x", "", "1.5", "1", "99999999999":  # descriptor 3 isn't open
+            command = ["sh", "-c", script, "sh", count, sys.executable, PROGRAM, "--", "cat"]
+            ran = subprocess.run(command, capture_output=True, text=True, timeout=60)
+            self.assertRegex(ran.stderr, rf"^krb_listen: LISTEN_FDS={count}: expected .*\n$")
+            self.assertEqual(ran.returncode, 1)
+
 
 def run(program, *words):
     """Returns the status of a program in Python, its standard output and its standard error."""
@@ -1163,6 +1195,8 @@ class Connect(unittest.TestCase):
         for seconds in "x", "0", "-1", "nan", "inf":
             self.is_refused("--seconds", seconds, "h", *cat)
         self.is_refused("--seconds", *cat)
+        for port in "0", "65536", "99999", "9" * 5000:
+            self.is_refused(f"127.0.0.1:{port}", *cat)
 
     def test_first_that_answers(self):
         self.assertEqual(self.ask(self.kdc(reply)), (0, "", ""))

@@ -4,8 +4,9 @@
 #     examples/pkinit_certificates.sh REALM USER FOLDER
 #
 # FOLDER gets anchor.pem, kdc.pem and client.pem, the same in DER (anchor.der, ..), and the keys anchor.key, kdc.key and client.key.
-# Nobody else can read the keys. Each certificate is valid for a year. DAYS, and KEY (what `openssl genpkey` gets), may say otherwise.
-# This project needs RSA keys, as by KEY='-algorithm RSA -pkeyopt rsa_keygen_bits:2048'.
+# Nobody else can read the keys, which are of RSA with 2,048 bits. Each certificate is valid for a year. DAYS, and KEY (what
+# `openssl genpkey` gets), may say otherwise, as KEY='-algorithm RSA -pkeyopt rsa_keygen_bits:4096'. This project takes RSA keys alone, of
+# 2,048 to 4,096 bits.
 #
 # Where FOLDER has an authority already, it stays. It signs one further certificate then, with a key of its own: USER.pem, USER.der and
 # USER.key, or for the USER `-` the KDC's next one: kdc-next.pem, .. Files that are there already are an error.
@@ -21,7 +22,7 @@ mkdir -p "$folder"
 # The key of a holder, and a request for its certificate, by the name of their files.
 asked() {
     # shellcheck disable=SC2086
-    openssl genpkey ${KEY:--algorithm EC -pkeyopt ec_paramgen_curve:P-256} -out "$folder/$1.key"
+    openssl genpkey ${KEY:--algorithm RSA -pkeyopt rsa_keygen_bits:2048} -out "$folder/$1.key"
     HOLDER="$2" openssl req -new -sha256 -config "$config" -key "$folder/$1.key" -out "$folder/$1.req"
 }
 

@@ -5,7 +5,7 @@ usage: tools/calls.py [CRATE ..]     run from the top; ends with 1 where a call 
 
 A call that is lent nothing to change leaves everything as it was. `CRATE::TYPE::CALL | ANSWER | what it may change: clauses`.
 """
-import glob, os, re, sys
+import glob, re, sys
 
 # Crates of tests, replays, examples and times.
 NOT_PRODUCT = re.compile(r"(replay|example|test|bench)_")

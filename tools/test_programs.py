@@ -1,5 +1,5 @@
 #!/usr/bin/env python3
-"""Tests of the start scripts, `make build`, `make install` and the manual pages, over programs and a kit that are stubs.
+"""Tests of the start scripts, `make build`, `make install`, `make run` and the manual pages, over programs and a kit that are stubs.
 
 usage: python3 -B tools/test_programs.py
 """
@@ -61,7 +61,7 @@ class Copy(unittest.TestCase):
             if name in ("tools", "bridges", "examples", "docs"):
                 shutil.copytree(f"{TOP}/{name}", f"{self.top}/{name}", symlinks=True)
             elif os.path.isfile(f"{TOP}/{name}"):
-                shutil.copy(f"{TOP}/{name}", self.top)
+                shutil.copy(f"{TOP}/{name}", self.top, follow_symlinks=False)
         for crate in os.listdir(f"{TOP}/crates"):
             os.makedirs(f"{self.top}/crates/{crate}")
             os.symlink(f"{TOP}/crates/{crate}/src", f"{self.top}/crates/{crate}/src")
@@ -100,6 +100,13 @@ class Starts(Copy):
             os.symlink(f"{self.top}/{name}", f"{self.folder}/{name}")
             wrote, said = self.run_in(f"{self.folder}/{name}", "list", "two words")
             self.assertEqual((wrote[0], said), ("arguments: list two words", []))
+            os.symlink(name, f"{self.folder}/{name[4:]}")  # a link of another name, which leads to that one
+            self.assertEqual(self.run_in(f"{self.folder}/{name[4:]}", "list")[0][0], "arguments: list")
+
+    def test_what_is_no_start_script(self):
+        _, said = self.run_in(f"{self.top}/tools/run_program", "krb_login", status=2)
+        self.assertEqual(len(said), 1)
+        self.assertIn("expected a link of a program's name: krb_accounts, ", said[0])
 
     def test_the_status_is_the_programs(self):
         self.build_stubs()
@@ -292,6 +299,56 @@ class Install(Copy):
             self.assertIn("rt is missing: the command of Rattle's kit", said[0])
 
 
+class Run(Copy):
+    """make run, with a KDC that answers a message by the message."""
+
+    def start(self):
+        """Starts it, and returns the process and the port, once it listens."""
+        write(f"{self.top}/crates/krb_account_tool/out/krb_account_tool", '#!/bin/sh\ncp "$2" "$3"\n')
+        write(f"{self.top}/crates/krb_kdcd/out/krb_kdcd", "#!/bin/sh\nexec cat\n")
+        with socket.create_server(("127.0.0.1", 0)) as it:
+            port = it.getsockname()[1]
+        how = {"cwd": self.top, "env": self.env, "stdin": subprocess.DEVNULL, "stdout": subprocess.PIPE, "stderr": subprocess.STDOUT}
+        process = subprocess.Popen(["make", "-s", "run", f"PORT={port}"], text=True, start_new_session=True, **how)
+        self.addCleanup(process.stdout.close)
+        self.addCleanup(self.end, process)
+        said = ""
+        while "TCP and UDP, port" not in said:
+            line = process.stdout.readline()
+            self.assertTrue(line, said)
+            said += line
+        return process, port
+
+    def end(self, process):
+        """Ends it as Ctrl-C does, where it hasn't ended."""
+        if process.poll() is None:
+            os.killpg(process.pid, signal.SIGINT)
+            process.wait(30)
+
+    def test_a_realm_over_tcp_and_udp(self):
+        process, port = self.start()
+        with socket.create_connection(("127.0.0.1", port), 20) as it:
+            it.sendall(b"\0\0\0\1a")
+            self.assertEqual(it.recv(9), b"\0\0\0\1a")
+        with socket.socket(type=socket.SOCK_DGRAM) as it:
+            it.settimeout(20)
+            it.sendto(b"b", ("127.0.0.1", port))
+            self.assertEqual(it.recv(9), b"b")
+        realm = f"{self.top}/out/realm"
+        self.assertEqual(text_of(f"{realm}/accounts.cdb"), text_of(f"{TOP}/examples/accounts"))
+        self.assertEqual(stat.S_IMODE(os.stat(f"{realm}/accounts").st_mode), 0o600)
+        self.assertRegex(text_of(f"{realm}/krb5.conf"), rf"\nkdc = 127\.0\.0\.1:{port}\n")
+        self.end(process)
+        self.assertEqual(self.run_in(f"{self.top}/tools/free_port", str(port)), ([], []))
+
+    def test_a_wrong_port_proves_nothing(self):
+        with socket.create_server(("127.0.0.1", 0)) as it:
+            for word in "abc", "88 99", str(it.getsockname()[1]):
+                wrote, said = self.run_in("make", "-s", "run", f"PORT={word}", status=2)
+                self.assertEqual((wrote, len(said)), ([], 2))  # the other line is make's own
+                self.assertRegex(said[0], f"^make: PORT={word}: .*expected a ")
+
+
 class Ports(unittest.TestCase):
     def run_with(self, word):
         ended = subprocess.run([f"{TOP}/tools/free_port", word], capture_output=True, text=True)
@@ -308,6 +365,9 @@ class Ports(unittest.TestCase):
             port = it.getsockname()[1]
             self.assertEqual(self.run_with(str(port))[0], 2)
         self.assertEqual(self.run_with(str(port)), (0, ""))
+        with socket.socket(type=socket.SOCK_DGRAM) as it:
+            it.bind(("127.0.0.1", 0))
+            self.assertEqual(self.run_with(str(it.getsockname()[1]))[0], 2)
 
 
 class Pages(unittest.TestCase):
