@@ -7,7 +7,7 @@
 # stub that answers at once, so the figures are those of the listener.
 #
 # Or bench/listener.sh kdcd [ACCOUNTS..]: the workers are krb_kdcd, which logs, over a realm of 10 and then of 1,000,000 accounts, or of the
-# numbers given. Each exchange is a preauthenticated AS request, and krb5kdc has as many principals and logs too. Both stand at once and take
+# numbers given. Each exchange is a preauthenticated AS request, and krb5kdc has as many principals and logs too. Both run at once and take
 # rounds in turn; what is printed are medians. First with one processor; then, where there are four, with four, of which krb5kdc uses one,
 # and then all by four processes. It fails where an exchange costs more of the processor than krb5kdc's, or where with four processors there
 # are fewer exchanges a second than one process of krb5kdc has. Making krb5kdc's database of 1,000,000 takes a minute or two, and 0.8 GB of
