@@ -194,7 +194,9 @@ def weakest(etypes):
 
 
 def fault_of(ended, most):
-    """What an attacker got that it may not get, or none. `most`: how many requests at most."""
+    """What an attacker got that it may not get, or none. `most`: how many requests at most. Without a request nothing was attacked."""
+    if not ended.requests:
+        return f"no request: {ended.lines}"
     if len(ended.requests) > most:
         return f"{len(ended.requests)} requests, and not {most} at most"
     for request in ended.requests:
