@@ -87,5 +87,5 @@ def kit_fault(command):
 
 def version():
     """What `--version` of each program says after its name."""
-    with open(f"{TOP}/crates/krb_version/src/lib.rt", encoding="utf-8") as it:
+    with open(f"{TOP}/crates/krb_programs/src/version.rt", encoding="utf-8") as it:
         return re.search(r'VERSION: &str = "(.*)";', it.read())[1]

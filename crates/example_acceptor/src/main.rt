@@ -14,27 +14,32 @@ mod frame;
 mod server;
 mod setup;
 
-use byte_streams::Watched;
+use anyhow::bail;
 use krb_commands::printable_of;
-use std::io::BufReader;
+use krb_programs::{Streams, stop_program};
 use std::process::ExitCode;
+
+/// The program's name.
+const PROGRAM: &str = "example_acceptor";
+
+/// The program's status after a refusal.
+const REFUSED: u8 = 1;
 
 fn main(rt: HostRuntime) -> ExitCode {
     let fault = match run(&rt) {
         Ok(()) => return ExitCode::SUCCESS,
         Err(fault) => fault,
     };
-    // Where standard error takes nothing, the status still tells.
-    let _ = match printable_of(rt.alloc(), &fault) {
-        Ok(line) => eprintln!(rt; "example_acceptor: {line}"),
-        Err(_) => eprintln!(rt; "example_acceptor: out of memory"),
-    };
-    ExitCode::FAILURE
+    match printable_of(rt.alloc(), &fault) {
+        Ok(line) => stop_program(&rt, PROGRAM, &line, REFUSED),
+        Err(_) => stop_program(&rt, PROGRAM, "out of memory", REFUSED),
+    }
 }
 
 fn run(rt: &HostRuntime) -> anyhow::Result<()> {
     let mut server = setup::server_of(rt)?;
-    let mut reader = Watched::new(BufReader::new(rt.alloc(), rt.stdin())?);
-    let mut writer = Watched::new(rt.stdout());
-    server::serve(rt, &mut server, &mut reader, &mut writer)
+    let Ok(mut streams) = Streams::open(rt) else {
+        bail!("out of memory");
+    };
+    server::serve(rt, &mut server, &mut streams.reader, &mut streams.writer)
 }

@@ -1,9 +1,9 @@
 //! The service at the other end of standard input and output.
 
-use byte_streams::{Watched, WholeFault, read_full, write_whole};
+use byte_streams::{WholeFault, read_full, write_whole};
 use krb_commands::{Stop, failed};
 use krb_frames::{FRAME_LIMIT, ServeFault, read_frame, write_frame};
-use std::io::{BufReader, Stdin, Stdout};
+use krb_programs::Streams;
 
 /// The frame begins or ends a context.
 pub(crate) const NOOP: u8 = 1;
@@ -33,21 +33,14 @@ pub(crate) const SEND_MIC: u8 = 128;
 #[derive(Drop)]
 pub(crate) struct Peer<'a> {
     rt: &'a HostRuntime,
-    reader: Watched<BufReader<Stdin>>,
-    writer: Watched<Stdout>,
+    streams: Streams,
 }
 
 impl<'a> Peer<'a> {
     /// The service at standard input and output.
     pub(crate) fn open(rt: &'a HostRuntime) -> Result<Peer<'a>, Stop> {
-        let Ok(input) = BufReader::new(rt.alloc(), rt.stdin()) else {
-            return Err(Stop::Memory);
-        };
-        Ok(Peer {
-            rt,
-            reader: Watched::new(input),
-            writer: Watched::new(rt.stdout()),
-        })
+        let streams = Streams::open(rt)?;
+        Ok(Peer { rt, streams })
     }
 
     /// Sends a frame, in one write where that takes all.
@@ -60,7 +53,7 @@ impl<'a> Peer<'a> {
         if write_frame(alloc, &mut octets, token).is_err() {
             return Err(Stop::Memory);
         }
-        match write_whole(&mut self.writer, &octets) {
+        match write_whole(&mut self.streams.writer, &octets) {
             Ok(()) => Ok(()),
             Err(WholeFault::Memory) => Err(Stop::Memory),
             Err(_) => Err(failed(
@@ -87,7 +80,7 @@ impl<'a> Peer<'a> {
     fn flags(&mut self, expected: &str) -> Result<u8, Stop> {
         let alloc = self.rt.alloc();
         let mut flags = [0];
-        match read_full(&mut self.reader, &mut flags) {
+        match read_full(&mut self.streams.reader, &mut flags) {
             Ok(1) => Ok(flags[0]),
             Ok(_) => Err(failed(
                 alloc,
@@ -100,7 +93,7 @@ impl<'a> Peer<'a> {
     // The token behind the flags.
     fn token(&mut self) -> Result<Vec<u8>, Stop> {
         let alloc = self.rt.alloc();
-        match read_frame(alloc, &mut self.reader) {
+        match read_frame(alloc, &mut self.streams.reader) {
             Ok(Some(token)) => Ok(token),
             Err(ServeFault::Memory) => Err(Stop::Memory),
             Err(ServeFault::FrameTooLong) => Err(failed(

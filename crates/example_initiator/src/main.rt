@@ -15,7 +15,6 @@
 mod arguments;
 mod frames;
 mod negotiate;
-mod occasion;
 mod party;
 mod service_name;
 mod talk;
@@ -23,12 +22,14 @@ mod tokens;
 
 use crate::arguments::{Asked, Manner, asked_of};
 use crate::negotiate::negotiate;
-use crate::occasion::Occasions;
 use crate::party::party_in;
 use crate::talk::talk;
-use krb_commands::{Stop, arguments_of, is_word, print_line, usage};
-use krb_version::VERSION;
+use krb_commands::{RandomFile, Stop, arguments_of, is_word, print_line, print_version, usage};
+use krb_programs::stop_program;
 use std::process::ExitCode;
+
+/// The program's name.
+const PROGRAM: &str = "example_initiator";
 
 /// What `--help` prints.
 const USAGE: &str = "usage:
@@ -48,13 +49,10 @@ const USAGE: &str = "usage:
 Frames go to standard output and come from standard input. So socat TCP:SERVER:4444 EXEC:'example_initiator talk ..' is the client.";
 
 fn main(rt: HostRuntime) -> ExitCode {
-    let stop = match run(&rt) {
-        Ok(()) => return ExitCode::SUCCESS,
-        Err(stop) => stop,
-    };
-    // Where standard error takes nothing, the status still tells.
-    let _ = eprintln!(rt; "example_initiator: {stop}");
-    ExitCode::from(stop.status())
+    match run(&rt) {
+        Ok(()) => ExitCode::SUCCESS,
+        Err(stop) => stop_program(&rt, PROGRAM, &stop, stop.status()),
+    }
 }
 
 fn run(rt: &HostRuntime) -> Result<(), Stop> {
@@ -65,19 +63,17 @@ fn run(rt: &HostRuntime) -> Result<(), Stop> {
             "expected: talk or negotiate, -c CACHE and a SERVICE: see --help",
         )),
         [word] if is_word(word, "--help") => print_line(rt, USAGE),
-        [word] if is_word(word, "--version") => {
-            print_line(rt, format_args!("example_initiator {VERSION}"))
-        }
+        [word] if is_word(word, "--version") => print_version(rt, PROGRAM),
         words => log_in(rt, &asked_of(rt.alloc(), words)?),
     }
 }
 
 fn log_in(rt: &HostRuntime, asked: &Asked<'_>) -> Result<(), Stop> {
-    let mut occasions = Occasions::open(rt, &asked.settings)?;
+    let random = RandomFile::open(rt, asked.settings.words)?;
     let party = party_in(rt, asked)?;
     let done = match asked.manner {
-        Manner::Talk => talk(rt, asked, &party, &mut occasions),
-        Manner::Negotiate => negotiate(rt, asked, &party, &mut occasions),
+        Manner::Talk => talk(rt, asked, &party, &random),
+        Manner::Negotiate => negotiate(rt, asked, &party, &random),
     };
     drop(party);
     done

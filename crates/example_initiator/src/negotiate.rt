@@ -1,27 +1,25 @@
 //! A context with a web server (RFC 4559).
 
 use crate::arguments::Asked;
-use crate::occasion::Occasions;
 use crate::party::Party;
 use crate::tokens::{first_token, say_established, take_answer};
 use base64::DecodeAllocError;
 use base64::engine::general_purpose::STANDARD;
 use gss_initiator::{Initiated, Pending, Progress, Taken};
-use krb_commands::{Stop, failed, print_line, refused};
+use krb_commands::{RandomFile, Stop, print_line, read_input, refused};
 use result_pairs::if_passed;
-use std::io::{ErrorKind, Read};
 
 /// How many octets the server's answer may have in base64.
-const ANSWER_LIMIT: usize = 65_536;
+const ANSWER_LIMIT: u64 = 65_536;
 
 /// Prints the first token, takes the server's answer, if one is due, and prints the last token, if one is due.
 pub(crate) fn negotiate(
     rt: &HostRuntime,
     asked: &Asked<'_>,
     party: &Party,
-    occasions: &mut Occasions<'_>,
+    random: &RandomFile<'_>,
 ) -> Result<(), Stop> {
-    let Initiated { token, progress } = first_token(rt, asked, party, occasions)?;
+    let Initiated { token, progress } = first_token(rt, asked, party, random)?;
     let printed = print_token(rt, &token);
     drop(token);
     let concluded = match if_passed(progress, printed)? {
@@ -61,7 +59,7 @@ fn conclude(rt: &HostRuntime, asked: &Asked<'_>, pending: &Pending) -> Result<()
 
 // The server's token, of which standard input has the base64.
 fn answer_of(rt: &HostRuntime) -> Result<Vec<u8>, Stop> {
-    let text = input_of(rt)?;
+    let text = read_input(rt, ANSWER_LIMIT)?;
     if text.is_empty() {
         return Err(refused(
             rt.alloc(),
@@ -74,18 +72,6 @@ fn answer_of(rt: &HostRuntime) -> Result<Vec<u8>, Stop> {
         Err(_) => Err(refused(
             rt.alloc(),
             "standard input: expected the server's token in base64",
-        )),
-    }
-}
-
-fn input_of(rt: &HostRuntime) -> Result<Vec<u8>, Stop> {
-    let mut text = Vec::new(rt.alloc());
-    match rt.stdin().take(ANSWER_LIMIT as u64).read_to_end(&mut text) {
-        Ok(_) => Ok(text),
-        Err(fault) if fault.kind() == ErrorKind::OutOfMemory => Err(Stop::Memory),
-        Err(fault) => Err(failed(
-            rt.alloc(),
-            format_args!("standard input can't be read: {fault}"),
         )),
     }
 }

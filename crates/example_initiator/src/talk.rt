@@ -2,12 +2,11 @@
 
 use crate::arguments::Asked;
 use crate::frames::{CONTEXT, CONTEXT_NEXT, DATA, ENCRYPTED, MIC, NOOP, Peer, SEND_MIC, WRAPPED};
-use crate::occasion::Occasions;
 use crate::party::Party;
 use crate::tokens::{first_token, message_token, say_established, take_answer, verify};
 use gss_contexts::{Context, Protection};
 use gss_initiator::{Initiated, Pending, Progress, Taken};
-use krb_commands::Stop;
+use krb_commands::{RandomFile, Stop};
 use result_pairs::if_passed;
 
 /// Establishes a context with the service, sends it the messages, and ends the context.
@@ -15,12 +14,12 @@ pub(crate) fn talk(
     rt: &HostRuntime,
     asked: &Asked<'_>,
     party: &Party,
-    occasions: &mut Occasions<'_>,
+    random: &RandomFile<'_>,
 ) -> Result<(), Stop> {
     let mut peer = Peer::open(rt)?;
-    let mut context = establish(rt, asked, party, occasions, &mut peer)?;
+    let mut context = establish(rt, asked, party, random, &mut peer)?;
     say_established(rt, asked);
-    let sent = send_messages(rt, asked, occasions, &mut peer, &mut context);
+    let sent = send_messages(rt, asked, random, &mut peer, &mut context);
     drop(context);
     sent
 }
@@ -29,10 +28,10 @@ fn establish(
     rt: &HostRuntime,
     asked: &Asked<'_>,
     party: &Party,
-    occasions: &mut Occasions<'_>,
+    random: &RandomFile<'_>,
     peer: &mut Peer<'_>,
 ) -> Result<Context, Stop> {
-    let Initiated { token, progress } = first_token(rt, asked, party, occasions)?;
+    let Initiated { token, progress } = first_token(rt, asked, party, random)?;
     let sent = begin(peer, &token);
     drop(token);
     match if_passed(progress, sent)? {
@@ -72,12 +71,12 @@ fn conclude(
 fn send_messages(
     rt: &HostRuntime,
     asked: &Asked<'_>,
-    occasions: &mut Occasions<'_>,
+    random: &RandomFile<'_>,
     peer: &mut Peer<'_>,
     context: &mut Context,
 ) -> Result<(), Stop> {
     for message in &asked.messages {
-        send_message(rt, asked, occasions, peer, context, *message)?;
+        send_message(rt, asked, random, peer, context, *message)?;
     }
     peer.send(NOOP, &[])
 }
@@ -86,12 +85,12 @@ fn send_messages(
 fn send_message(
     rt: &HostRuntime,
     asked: &Asked<'_>,
-    occasions: &mut Occasions<'_>,
+    random: &RandomFile<'_>,
     peer: &mut Peer<'_>,
     context: &mut Context,
     message: &str,
 ) -> Result<(), Stop> {
-    let token = message_token(rt.alloc(), asked, occasions, context, message)?;
+    let token = message_token(rt.alloc(), asked, random, context, message)?;
     peer.send(flags_of(asked.settings.choice.protection), &token)?;
     let mic = peer.receive(MIC, "the service's MIC of the message")?;
     verify(rt, context, message, &mic)

@@ -1,13 +1,12 @@
 //! The tokens of a context.
 
 use crate::arguments::{Asked, Choice};
-use crate::occasion::{Occasions, moment_by};
 use crate::party::Party;
 use gss_acceptor::context_flags::{CONFIDENTIALITY, INTEGRITY, MUTUAL, REPLAY, SEQUENCE};
 use gss_acceptor::{ContextFlags, InitialChecksum};
 use gss_contexts::{Context, TokenRefusal};
 use gss_initiator::{InitiateRefusal, Initiated, Pending, Taken, initiate};
-use krb_commands::{Stop, refused};
+use krb_commands::{RandomFile, Stop, moment_or_now, refused};
 use std::alloc::Global;
 
 /// The first token of a context with the service.
@@ -15,10 +14,10 @@ pub(crate) fn first_token(
     rt: &HostRuntime,
     asked: &Asked<'_>,
     party: &Party,
-    occasions: &mut Occasions<'_>,
+    random: &RandomFile<'_>,
 ) -> Result<Initiated, Stop> {
-    let moment = moment_by(rt, &asked.settings)?;
-    let words = occasions.words(rt.alloc())?;
+    let moment = moment_or_now(rt, asked.settings.moment)?;
+    let words = random.take_words(rt.alloc(), "token")?;
     let initiated = initiate(
         rt.alloc(),
         &party.client,
@@ -76,14 +75,14 @@ pub(crate) fn say_established(rt: &HostRuntime, asked: &Asked<'_>) {
 pub(crate) fn message_token(
     alloc: Global,
     asked: &Asked<'_>,
-    occasions: &mut Occasions<'_>,
+    random: &RandomFile<'_>,
     context: &mut Context,
     message: &str,
 ) -> Result<Vec<u8>, Stop> {
     let Some(protection) = asked.settings.choice.protection else {
         return Ok(Vec::from_slice(alloc, message.as_bytes())?);
     };
-    let words = occasions.words(alloc)?;
+    let words = random.take_words(alloc, "token")?;
     match context.wrap(alloc, message.as_bytes(), protection, &words) {
         Ok(token) => Ok(token),
         Err(refusal) => Err(stop_of_message(alloc, "a message can't be wrapped", refusal)),

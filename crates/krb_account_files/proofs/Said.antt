@@ -8,9 +8,9 @@ use Rattle.cdb.specs.Find.{GivesData, looked_up}
 use Rattle.cdb.specs.Reading.{Fails}
 use Rattle.cdb.specs.declared.fault.Fault.{Fault}
 use Rattle.cdb.specs.declared.fault.Fault.TheVariants as database
-use Rattle.krb_lookups.specs.Faults.{MayFail}
-use Rattle.krb_lookups.specs.declared.fault.LookupFault.{LookupFault}
-use Rattle.krb_lookups.specs.declared.fault.LookupFault.TheVariants as lookup
+use Rattle.krb_kdc.specs.Faults.{MayFail}
+use Rattle.krb_kdc.specs.declared.fault.LookupFault.{LookupFault}
+use Rattle.krb_kdc.specs.declared.fault.LookupFault.TheVariants as lookup
 use Rattle.krb_account_files.specs.declared.format.TheConstants.{RECORD_ROOM}
 use Rattle.krb_account_files.specs.Files.{IsFallible, IsLookOf, account_found, account_front, account_said, fault_of, look_of, or_none, realm_found, realm_front, realm_key, realm_said}
 use Rattle.krb_account_files.specs.Reading.{IsSaid}

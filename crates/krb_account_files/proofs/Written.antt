@@ -7,7 +7,7 @@ use Rattle.krb_accounts.specs.Packed.{fit, packed, unpacked, unpacked-packed}
 use Rattle.cdb.specs.Find.{looked_up}
 use Rattle.cdb.specs.Records.{answer}
 use Rattle.cdb.specs.declared.records.Record.{Record}
-use Rattle.krb_lookups.specs.declared.fault.LookupFault.{LookupFault}
+use Rattle.krb_kdc.specs.declared.fault.LookupFault.{LookupFault}
 use Rattle.krb_account_files.specs.declared.format.TheConstants.{RECORD_ROOM}
 use Rattle.krb_account_files.specs.declared.realm_parameters.RealmParameters.{RealmParameters}
 use Rattle.krb_account_files.specs.declared.writing.NamedAccount.{NamedAccount}

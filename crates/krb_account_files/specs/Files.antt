@@ -11,8 +11,8 @@ use Rattle.krb_accounts.specs.Packed.{fit, packed}
 use Rattle.cdb.specs.Find.{looked_up}
 use Rattle.cdb.specs.declared.fault.Fault.{Fault}
 use Rattle.cdb.specs.declared.fault.Fault.TheVariants as database
-use Rattle.krb_lookups.specs.declared.fault.LookupFault.{LookupFault}
-use Rattle.krb_lookups.specs.declared.fault.LookupFault.TheVariants.{Damaged, Failed}
+use Rattle.krb_kdc.specs.declared.fault.LookupFault.{LookupFault}
+use Rattle.krb_kdc.specs.declared.fault.LookupFault.TheVariants.{Damaged, Failed}
 use Rattle.krb_account_files.specs.declared.format.TheConstants.{REALM_KEY, RECORD_ROOM}
 use Rattle.krb_account_files.specs.declared.realm_parameters.RealmParameters.{RealmParameters}
 use Rattle.krb_account_files.specs.AccountRecords.{account_in}

@@ -1,8 +1,8 @@
 -- What a call that reads a record, or one in a file, returned.
 use Rattle.std.specs.Prelude.{◌≡◌, Option, None, Some, Result, Ok, Err}
 use Rattle.std.specs.declared.io.ErrorKind.{ErrorKind}
-use Rattle.krb_lookups.specs.declared.fault.LookupFault.{LookupFault}
-use Rattle.krb_lookups.specs.declared.fault.LookupFault.TheVariants as lookup
+use Rattle.krb_kdc.specs.declared.fault.LookupFault.{LookupFault}
+use Rattle.krb_kdc.specs.declared.fault.LookupFault.TheVariants as lookup
 use Rattle.krb_account_files.specs.declared.fault.RecordFault.{RecordFault}
 use Rattle.krb_account_files.specs.declared.fault.RecordFault.TheVariants as record_fault
 

@@ -6,7 +6,7 @@ ghost use Rattle.krb_accounts.specs.declared.packed.TheConstants.{BLOCK_ROOM};
 ghost use Rattle.krb_account_files.specs.declared.format.TheConstants.{RECORD_ROOM};
 ghost use Rattle.krb_account_files.specs.Files.{IsFallible, account_found, account_front, account_said, fault_of, realm_found, realm_front, realm_said};
 ghost use Rattle.krb_account_files.specs.Reading.{IsSaid};
-ghost use Rattle.krb_lookups.specs.Faults.{MayFail};
+ghost use Rattle.krb_kdc.specs.Faults.{MayFail};
 
 use crate::account_record::read_account;
 use crate::fault::RecordFault;
@@ -16,7 +16,7 @@ use crate::realm_record::read_realm;
 use arrayvec::ArrayVec;
 use cdb::{Fault, ReadAt, look_up};
 use krb_accounts::{Account, BLOCK_ROOM, pack_within};
-use krb_lookups::{Lookup, LookupFault};
+use krb_kdc::{Lookup, LookupFault};
 use picky_asn1::wrapper::GeneralStringAsn1;
 use std::alloc::Global;
 

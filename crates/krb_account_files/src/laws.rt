@@ -30,7 +30,7 @@ pub fn has_look()
 {}
 
 /// Each account of a file has a key of its suite's length, whatever the file's octets are. So the file's realm has a reply to each message
-/// (law `has_reply` of `krb_lookups`).
+/// (law `has_reply` of `krb_kdc`).
 pub fn are_keyed()
     ensures { (bytes : List ℕ) → IsBytes bytes → AreKeyed (look_of bytes) }
 {}

@@ -1,5 +1,6 @@
 //! The command `import`.
 
+use crate::PROGRAM;
 use crate::accounts::{service_name, two_lines};
 use crate::arguments::expected;
 use crate::secrets::{SaltedKey, key_of_password};
@@ -8,6 +9,7 @@ use krb_account_texts::{AccountLine, EditRefusal, Line, RealmLine, add, principa
 use krb_accounts::{Account, RealmRefusal, Settings, components_of, realm_name_of};
 use krb_commands::{FileKind, Stop, begin_first, octets_of, printable_of, refused};
 use krb_crypto::{CipherSuite, Key};
+use krb_programs::say;
 use krb_settings::{AccountSettings, RealmSettings, Secret, SettingsFault, read_settings_file};
 use krb_settings_check::{Place, Rule, explain, explain_rule, warnings_of};
 use picky_asn1::wrapper::GeneralStringAsn1;
@@ -61,8 +63,7 @@ fn warn_of_settings(
     let path = source.path;
     for remark in &warnings_of(rt.alloc(), source.text, written)? {
         let line = printable_of(rt.alloc(), format_args!("{path}{remark}"))?;
-        // A warning that can't be written is no fault.
-        let _ = eprintln!(rt; "krb_accounts: {line}");
+        say(rt, PROGRAM, &line);
     }
     Ok(())
 }

@@ -28,9 +28,12 @@ mod warner;
 mod warnings;
 
 use accounts::Edit;
-use krb_commands::{Stop, arguments_of, failed, print_line};
-use krb_version::VERSION;
+use krb_commands::{Stop, arguments_of, failed, print_line, print_version};
+use krb_programs::stop_program;
 use std::process::ExitCode;
+
+/// The program's name.
+pub(crate) const PROGRAM: &str = "krb_accounts";
 
 /// What `--help` prints, and what a run with other arguments expects.
 const USAGE: &str = "usage:
@@ -58,13 +61,10 @@ SUITE is a name such as aes256-cts-hmac-sha1-96, which is also that of create an
 CERTIFICATE, KEY and ANCHOR are files, in PEM or DER. KEY has at least 2,048 bits, and is not encrypted.";
 
 fn main(rt: HostRuntime) -> ExitCode {
-    let stop = match run(&rt) {
-        Ok(()) => return ExitCode::SUCCESS,
-        Err(stop) => stop,
-    };
-    // Where standard error takes nothing, the status still tells.
-    let _ = eprintln!(rt; "krb_accounts: {stop}");
-    ExitCode::from(stop.status())
+    match run(&rt) {
+        Ok(()) => ExitCode::SUCCESS,
+        Err(stop) => stop_program(&rt, PROGRAM, &stop, stop.status()),
+    }
 }
 
 /// Runs the command of the arguments.
@@ -79,7 +79,7 @@ fn run(rt: &HostRuntime) -> Result<(), Stop> {
 fn run_command(rt: &HostRuntime, command: &str, rest: &[String]) -> Result<(), Stop> {
     match command {
         "-h" | "--help" => print_line(rt, USAGE),
-        "--version" => print_line(rt, format_args!("krb_accounts {VERSION}")),
+        "--version" => print_version(rt, PROGRAM),
         "create" => accounts::create(rt, rest),
         "import" => imports::import(rt, rest),
         "list" => listing::list(rt, rest),

@@ -3,11 +3,10 @@
 use crate::arguments::KeySource;
 use krb_account_texts::{LineFault, read_key};
 use krb_accounts::password_salt;
-use krb_commands::{Stop, failed, refused};
+use krb_commands::{Stop, failed, read_input, refused};
 use krb_crypto::{Cipher, CipherSuite, KerberosCryptoError, Key};
 use picky_asn1::wrapper::{GeneralStringAsn1, OctetStringAsn1};
 use std::alloc::{AllocError, Global};
-use std::io::{ErrorKind, Read};
 use std::random::RandomSource;
 
 /// How many octets standard input may have.
@@ -82,20 +81,7 @@ fn random_octets(rt: &HostRuntime) -> Result<[u8; SEED_ROOM], Stop> {
 
 /// The one line of standard input, without its end.
 fn read_secret(rt: &HostRuntime) -> Result<Vec<u8>, Stop> {
-    let mut octets = Vec::new(rt.alloc());
-    if let Err(fault) = rt
-        .stdin()
-        .take(SECRET_LIMIT as u64 + 1)
-        .read_to_end(&mut octets)
-    {
-        return match fault.kind() {
-            ErrorKind::OutOfMemory => Err(Stop::Memory),
-            _ => Err(failed(
-                rt.alloc(),
-                format_args!("standard input can't be read: {fault}"),
-            )),
-        };
-    }
+    let mut octets = read_input(rt, SECRET_LIMIT as u64 + 1)?;
     if octets.last() == Some(&b'\n') {
         let _end = octets.pop();
     }

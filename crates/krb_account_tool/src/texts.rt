@@ -116,7 +116,7 @@ fn whole_text(rt: &HostRuntime, lines: &[Line]) -> Result<String, Stop> {
     let alloc = rt.alloc();
     let text = text_of(alloc, lines)?;
     let is_read = match ordered_lines(alloc, text.as_str()) {
-        Ok(again) => are_alike(&again, lines),
+        Ok(again) => have_same_kinds(&again, lines),
         Err(TextFault::Memory) => return Err(Stop::Memory),
         Err(_) => false,
     };
@@ -129,20 +129,28 @@ fn whole_text(rt: &HostRuntime, lines: &[Line]) -> Result<String, Stop> {
     Ok(text)
 }
 
-// Whether there are as many lines, of the same kinds.
-fn are_alike(lines: &[Line], others: &[Line]) -> bool {
+// What a line is of.
+#[derive(Clone, Copy, PartialEq, Eq)]
+enum LineKind {
+    Comment,
+    Realm,
+    Account,
+}
+
+// Whether there are as many lines as others, and each is of the kind of the other one in its place.
+fn have_same_kinds(lines: &[Line], others: &[Line]) -> bool {
     for (line, other) in lines.iter().zip(others) {
-        if kind_of(line) != kind_of(other) {
+        if line_kind(line) != line_kind(other) {
             return false;
         }
     }
     lines.len() == others.len()
 }
 
-fn kind_of(line: &Line) -> u8 {
+fn line_kind(line: &Line) -> LineKind {
     match line {
-        Line::Comment(_) => 0,
-        Line::Realm(_) => 1,
-        Line::Account(_) => 2,
+        Line::Comment(_) => LineKind::Comment,
+        Line::Realm(_) => LineKind::Realm,
+        Line::Account(_) => LineKind::Account,
     }
 }

@@ -1,5 +1,6 @@
 //! What is likely a slip in an account, by the rules for settings files.
 
+use crate::PROGRAM;
 use crate::secrets::octets_of;
 use crate::texts::account_among;
 use krb_account_texts::{Line, RealmLine, is_krbtgt};
@@ -88,10 +89,10 @@ pub(crate) fn say<D: Display + Drop>(
     let warning = printable_of(rt.alloc(), warning)?;
     match stream {
         Stream::Error => {
-            let _ = eprintln!(rt; "krb_accounts: {warning}");
+            krb_programs::say(rt, PROGRAM, &warning);
             Ok(())
         }
-        Stream::Output => print_line(rt, format_args!("krb_accounts: {warning}")),
+        Stream::Output => print_line(rt, format_args!("{PROGRAM}: {warning}")),
     }
 }
 

@@ -8,33 +8,27 @@ ghost use Rattle.krb_commands.specs.Given.{parts};
 ghost use Rattle.krb_commands.specs.Stops.{IsUsage};
 
 use crate::stop::{Stop, usage};
+use krb_programs::{ArgumentsFault, read_arguments};
 use krb_time::Moment;
 use krb_types::{NameTextFault, PrincipalText, principal_of_text};
 use std::alloc::{AllocError, Global};
-use std::env;
-use std::io::ErrorKind;
 
 /// The arguments after the program's name. One that is no text is refused.
 pub fn arguments_of(rt: &HostRuntime) -> Result<Vec<String>, Stop> {
-    let given = match env::args(rt) {
-        Ok(given) => given,
-        Err(fault) => return Err(unread(rt.alloc(), fault.kind())),
-    };
-    let mut arguments = Vec::new(rt.alloc());
-    for argument in given.skip(1) {
-        arguments.push(argument)?;
+    match read_arguments(rt) {
+        Ok(arguments) => Ok(arguments),
+        Err(fault) => Err(unread(rt.alloc(), fault)),
     }
-    Ok(arguments)
 }
 
-// Why the arguments weren't read: memory ran out, or one of them is no text.
-fn unread(alloc: Global, kind: ErrorKind) -> Stop
-    ensures memory { kind ≡ ErrorKind.OutOfMemory → result ≡ Stop.Memory }
+// The stop of arguments that aren't read.
+fn unread(alloc: Global, fault: ArgumentsFault) -> Stop
+    ensures memory { fault ≡ ArgumentsFault.Memory → result ≡ Stop.Memory }
     ensures text { IsUsage (Some (codes "the arguments can't be read: expected text")) result }
 {
-    match kind {
-        ErrorKind::OutOfMemory => Stop::Memory,
-        _ => usage(alloc, "the arguments can't be read: expected text"),
+    match fault {
+        ArgumentsFault::Memory => Stop::Memory,
+        ArgumentsFault::NotText => usage(alloc, "the arguments can't be read: expected text"),
     }
 }
 

@@ -2,11 +2,12 @@
 //! whole or not at all.
 //!
 //! [`given_of`] takes options, their values and the other words apart. [`Stop`] is one line for standard error, which shows no secret, and
-//! the status of the program. [`begin`] makes a new file beside the one whose place it is to take, under a name of its own, and
-//! `NewFile::finish` puts it there once it is on disk. So the path has the old file or the new one at each moment. The old file is locked
-//! meanwhile: another run waits for up to ten seconds. It is replaced only where it is of its [`FileKind`] or empty, and none of the files
-//! that the command reads. [`octets_of`] reads a file up to the limit of its kind. [`Printable`] and [`PrintableName`] show what comes from
-//! files and peers.
+//! the status of the program. A request of a client takes its random octets of a [`RandomFile`], and its moment of [`moment_or_now`].
+//!
+//! [`begin`] makes a new file beside the one whose place it is to take, under a name of its own, and `NewFile::finish` puts it there once it
+//! is on disk. So the path has the old file or the new one at each moment. The old file is locked meanwhile: another run waits for up to ten
+//! seconds. It is replaced only where it is of its [`FileKind`] or empty, and none of the files that the command reads. [`octets_of`] reads a
+//! file up to the limit of its kind. [`Printable`] and [`PrintableName`] show what comes from files and peers.
 //!
 //! Each call is safe and returns. `limit` and `has_front` of `FileKind` are `limit_of` and `is_of_kind`. `Printable` and `PrintableName`
 //! print `printable_text` and `printable_name`. `given_of` takes arguments apart, or refuses them in a text, both as `parts_of` says.
@@ -23,12 +24,14 @@ mod output;
 mod places;
 mod printable;
 mod reading;
+mod requests;
 mod stop;
 
 pub use arguments::{Given, arguments_of, given_of, is_word, principal_in};
 pub use files::{NewFile, begin, begin_first, write_file};
 pub use kinds::{ACCOUNTS_LIMIT, FileKind, KEYS_LIMIT, SMALL_LIMIT};
-pub use output::print_line;
+pub use output::{print_line, print_version};
 pub use printable::{Printable, PrintableName, printable_of};
-pub use reading::{is_there, keytab_in, octets_of};
+pub use reading::{is_there, keytab_in, octets_of, read_input, unread};
+pub use requests::{RandomFile, WORDS_TAKEN, moment_or_now};
 pub use stop::{Stop, failed, refused, usage};

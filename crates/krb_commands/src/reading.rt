@@ -3,6 +3,8 @@
 use crate::kinds::FileKind;
 use crate::stop::{Stop, failed, refused};
 use krb_keytabs::{Keytab, KeytabFault};
+use krb_programs::read_front;
+use std::alloc::Global;
 use std::fs::{self, FileType, Metadata};
 use std::io::{self, ErrorKind, Read};
 use std::os::unix::fs::FileTypeExt;
@@ -12,11 +14,11 @@ use std::os::unix::fs::FileTypeExt;
 pub fn octets_of(rt: &HostRuntime, path: &str, kind: FileKind) -> Result<Vec<u8>, Stop> {
     match fs::metadata(rt, path) {
         Ok(there) => check_readable(rt, path, kind, &there)?,
-        Err(fault) => return Err(unread(rt, path, fault)),
+        Err(fault) => return Err(unread(rt.alloc(), path, fault)),
     }
-    let octets = match read_up_to(rt, path, kind.limit().saturating_add(1)) {
+    let octets = match read_front(rt, path, kind.limit().saturating_add(1)) {
         Ok(octets) => octets,
-        Err(fault) => return Err(unread(rt, path, fault)),
+        Err(fault) => return Err(unread(rt.alloc(), path, fault)),
     };
     if kind.limit() < octets.len() as u64 {
         return Err(too_long(rt, path, kind));
@@ -52,17 +54,20 @@ fn too_long(rt: &HostRuntime, path: &str, kind: FileKind) -> Stop {
     )
 }
 
-fn read_up_to(rt: &HostRuntime, path: &str, count: u64) -> io::Result<Vec<u8>> {
+/// The first octets of standard input: all of them, or this many where it has more.
+pub fn read_input(rt: &HostRuntime, count: u64) -> Result<Vec<u8>, Stop> {
     let mut octets = Vec::new(rt.alloc());
-    let file = fs::open(rt, path)?;
-    file.take(count).read_to_end(&mut octets)?;
-    Ok(octets)
+    match rt.stdin().take(count).read_to_end(&mut octets) {
+        Ok(_) => Ok(octets),
+        Err(fault) => Err(unread(rt.alloc(), "standard input", fault)),
+    }
 }
 
-fn unread(rt: &HostRuntime, path: &str, fault: io::Error) -> Stop {
+/// The stop where a file or a stream can't be read.
+pub fn unread(alloc: Global, file: &str, fault: io::Error) -> Stop {
     match fault.kind() {
         ErrorKind::OutOfMemory => Stop::Memory,
-        _ => failed(rt.alloc(), format_args!("{path} can't be read: {fault}")),
+        _ => failed(alloc, format_args!("{file} can't be read: {fault}")),
     }
 }
 

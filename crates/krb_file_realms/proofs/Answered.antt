@@ -3,18 +3,18 @@ use Rattle.std.proofs.Common.{◌≡◌, ◌⊎◌, ℕ, List, false, Option, No
 use Rattle.std.specs.Prelude.{Vec}
 use Rattle.std.specs.Global.{Global}
 use Rattle.krb_accounts.specs.Accounts.{Look}
-use Rattle.krb_lookups.specs.Answers.{IsAnswerBy, MayRefuse}
-use Rattle.krb_lookups.specs.Faults.{MayFail}
-use Rattle.krb_lookups.specs.declared.fault.LookupFault.TheVariants as lookup
-use Rattle.krb_lookups.specs.declared.fault.LookupRefusal.{LookupRefusal}
-use Rattle.krb_lookups.specs.declared.fault.LookupRefusal.TheVariants.{Unreadable, Fault}
+use Rattle.krb_kdc.specs.Answers.{IsAnswerBy, MayRefuse}
+use Rattle.krb_kdc.specs.Faults.{MayFail}
+use Rattle.krb_kdc.specs.declared.fault.LookupFault.TheVariants as lookup
+use Rattle.krb_kdc.specs.declared.fault.LookupRefusal.{LookupRefusal}
+use Rattle.krb_kdc.specs.declared.fault.LookupRefusal.TheVariants.{Unreadable, Fault}
 use Rattle.krb_account_files.specs.Files.{IsLookOf, realm_said}
 use Rattle.krb_account_files.specs.declared.realm_parameters.RealmParameters.{RealmParameters}
 use Rattle.krb_file_realms.specs.Faults.{lookup_fault_of}
 use Rattle.krb_file_realms.specs.Lacks.{AreUnusable, IsWithout, IsWithoutBy}
 use Rattle.krb_file_realms.specs.Means.{IsUnusable}
 use Rattle.krb_file_realms.specs.Replies.{FileReplies, ReplyBy, ReplyByOctets, ReplyByRealm}
-use Rattle.krb_file_realms.specs.Offers.{offer_rows}
+use Rattle.krb_file_realms.specs.RefusedPkinit.{refused_rows}
 use Rattle.krb_kdc_requests.specs.Call.{CallRecord}
 use Rattle.krb_replies.specs.Replies.{Replies}
 use Rattle.krb_file_realms.specs.declared.pkinit_fault.PkinitFault.{PkinitFault}
@@ -55,7 +55,7 @@ module _ (realm : RealmParameters) (all : Look) (message : List ℕ) (moment : �
   for_octets octets own has same is =
       subst (λ (p : Option (List ℕ)). IsAnswerBy (ReplyBy p call message) result) (sym has) (subst (λ (o : List ℕ). IsAnswerBy (ReplyByOctets o call message) result) same is)
 
-  pub for_none : realm.pkinit ≡ None → IsAnswerBy (Replies call (offer_rows false) message) result → IsAnswerBy (ReplyByRealm realm all message moment words) result
+  pub for_none : realm.pkinit ≡ None → IsAnswerBy (Replies call (refused_rows false) message) result → IsAnswerBy (ReplyByRealm realm all message moment words) result
   for_none has is = subst (λ (p : Option (List ℕ)). IsAnswerBy (ReplyBy p call message) result) (sym has) is
 
 pub without_octets : (realm : RealmParameters) (may : Type 0) (octets own : List ℕ) → realm.pkinit ≡ Some octets → own ≡ octets → may ⊎ AreUnusable own → may ⊎ IsWithout realm

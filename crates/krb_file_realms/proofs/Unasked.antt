@@ -21,16 +21,16 @@ use Rattle.krb_tickets.specs.Padata.{first_of}
 use Rattle.krb_types.specs.Names.{components}
 use Rattle.krb_types.specs.Refusals.{Code}
 use Rattle.pkinit_interface.specs.Rows.{PkinitRows}
-use Rattle.krb_lookups.specs.Answers.{IsAnswerBy}
-use Rattle.krb_lookups.specs.declared.fault.LookupRefusal.{LookupRefusal}
-use Rattle.krb_lookups.specs.declared.fault.LookupRefusal.TheVariants.{Unreadable, Fault}
+use Rattle.krb_kdc.specs.Answers.{IsAnswerBy}
+use Rattle.krb_kdc.specs.declared.fault.LookupRefusal.{LookupRefusal}
+use Rattle.krb_kdc.specs.declared.fault.LookupRefusal.TheVariants.{Unreadable, Fault}
 use Rattle.krb_file_realms.specs.Asked.{IsAsked, IsUnasked}
 use Rattle.pkinit_requests.specs.PkinitRows.{pkinit_rows}
 use Rattle.pkinit_requests.specs.Trust.{TrustRecord}
 use Rattle.rsa_keys.specs.Functions.{rsa_functions}
 use Rattle.rsa_keys.specs.declared.rsa_keys.RsaKeys.{RsaKeys}
 use Rattle.krb_file_realms.specs.Means.{AreMeansIn, rows_of, trust_in}
-use Rattle.krb_file_realms.specs.Offers.{offer_rows}
+use Rattle.krb_file_realms.specs.RefusedPkinit.{refused_rows}
 use Rattle.krb_file_realms.specs.Replies.{ReplyByOctets}
 use Rattle.krb_file_realms.specs.declared.means.PkinitMeans.{PkinitMeans}
 
@@ -77,9 +77,9 @@ unasked call rows other message reply offered none (inr further) = inr further
 
 -- The reply to such a request is one by any means.
 pub by_any : (octets : Bytes) (call : CallRecord) (message : Bytes) (result : Result (Vec ℕ Global) LookupRefusal) → IsUnasked message
-    → IsAnswerBy (Replies call (offer_rows true) message) result → IsAnswerBy (ReplyByOctets octets call message) result
-by_any octets call message (Ok reply) none is = inl (λ means. unasked call (offer_rows true) (rows_of means) message (Some reply.items) refl none is)
-by_any octets call message (Err Unreadable) none is = inl (λ means. unasked call (offer_rows true) (rows_of means) message None refl none is)
+    → IsAnswerBy (Replies call (refused_rows true) message) result → IsAnswerBy (ReplyByOctets octets call message) result
+by_any octets call message (Ok reply) none is = inl (λ means. unasked call (refused_rows true) (rows_of means) message (Some reply.items) refl none is)
+by_any octets call message (Err Unreadable) none is = inl (λ means. unasked call (refused_rows true) (rows_of means) message None refl none is)
 by_any octets call message (Err (Fault fault)) none is = tt
 
 -- The reply by the octets' means.

@@ -1,7 +1,7 @@
 -- Why a realm's file can't be used.
 use Rattle.std.specs.Prelude.{Option, None, Some}
-use Rattle.krb_lookups.specs.declared.fault.LookupFault.{LookupFault}
-use Rattle.krb_lookups.specs.declared.fault.LookupFault.TheVariants as lookup
+use Rattle.krb_kdc.specs.declared.fault.LookupFault.{LookupFault}
+use Rattle.krb_kdc.specs.declared.fault.LookupFault.TheVariants as lookup
 use Rattle.krb_file_realms.specs.declared.fault.FileFault.{FileFault}
 use Rattle.krb_file_realms.specs.declared.fault.FileFault.TheVariants.{Damaged, Unread}
 use Rattle.krb_file_realms.specs.declared.pkinit_fault.PkinitFault.{PkinitFault}

@@ -3,5 +3,5 @@ pub mod Faults
 pub mod Headers
 pub mod Lacks
 pub mod Means
-pub mod Offers
+pub mod RefusedPkinit
 pub mod Replies

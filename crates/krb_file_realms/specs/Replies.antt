@@ -9,10 +9,10 @@ use Rattle.krb_kdc_requests.specs.Call.{CallRecord}
 use Rattle.krb_replies.specs.Replies.{Replies}
 use Rattle.krb_account_files.specs.Files.{IsLookOf, realm_said}
 use Rattle.krb_account_files.specs.declared.realm_parameters.RealmParameters.{RealmParameters}
-use Rattle.krb_lookups.specs.Begins.{IsNoRequest}
+use Rattle.krb_kdc.specs.Begins.{IsNoRequest}
 use Rattle.krb_file_realms.specs.Lacks.{IsLacking}
 use Rattle.krb_file_realms.specs.Means.{AreMeansIn, rows_of}
-use Rattle.krb_file_realms.specs.Offers.{offer_rows}
+use Rattle.krb_file_realms.specs.RefusedPkinit.{refused_rows}
 use Rattle.krb_file_realms.specs.declared.means.PkinitMeans.{PkinitMeans}
 
 -- A reply by these means, if logins by certificate are answered by these octets: they are the octets' means, or the reply is one by any
@@ -24,7 +24,7 @@ ReplyByOctets octets call message reply =
 
 -- A reply of a realm that answers no login by certificate, or one by these octets.
 abbrev pub ReplyBy : Option Bytes → CallRecord → Bytes → Option Bytes → Type 0
-ReplyBy None call message reply = Replies call (offer_rows false) message reply
+ReplyBy None call message reply = Replies call (refused_rows false) message reply
 ReplyBy (Some octets) call message reply = ReplyByOctets octets call message reply
 
 -- A reply of this realm with all of these accounts.

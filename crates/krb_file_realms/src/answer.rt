@@ -2,9 +2,9 @@
 ghost use Rattle.std.specs.Prelude.{◌≡◌, ◌⊎◌, ℕ, List, Some, IfErr, IfOk};
 ghost use Rattle.krb_types.specs.RandomBytes.{AreEnoughForReply};
 ghost use Rattle.krb_accounts.specs.Accounts.{Look};
-ghost use Rattle.krb_lookups.specs.Answers.{IsAnswerBy, MayRefuse};
-ghost use Rattle.krb_kdc_requests.specs.Begins.{BeginsRequest};
-ghost use Rattle.krb_lookups.specs.Calls.{call_with};
+ghost use Rattle.krb_kdc.specs.Answers.{IsAnswerBy, MayRefuse};
+ghost use Rattle.krb_kdc.specs.Begins.{BeginsRequest};
+ghost use Rattle.krb_kdc.specs.Calls.{call_with};
 ghost use Rattle.krb_account_files.specs.Files.{Holds, IsFallible};
 ghost use Rattle.krb_file_realms.specs.Faults.{lookup_fault_of};
 ghost use Rattle.krb_file_realms.specs.Lacks.{AreUnusable, IsLacking, IsWithout};
@@ -12,11 +12,11 @@ ghost use Rattle.krb_file_realms.specs.Replies.{FileReplies, ReplyByOctets, Repl
 
 use crate::asked::asks_by_certificate;
 use crate::means::means_in;
-use crate::offer::Offer;
 use crate::pkinit_fault::PkinitFault;
+use crate::refused_pkinit::RefusedPkinit;
 use cdb::ReadAt;
 use krb_account_files::{AccountFile, RealmParameters, realm_of};
-use krb_lookups::{LookupCall, LookupFault, LookupRefusal, answer_by, begins_request};
+use krb_kdc::{LookupCall, LookupFault, LookupRefusal, answer_by, begins_request};
 use krb_time::Moment;
 use std::alloc::Global;
 
@@ -73,7 +73,7 @@ fn answer_for<F: ReadAt>(
     match &realm.pkinit {
         Some(octets) => answer_by_octets(alloc, accounts, &call, octets.as_bytes(), message),
         None => {
-            let none = Offer { is_offered: false };
+            let none = RefusedPkinit { is_offered: false };
             answer_by(alloc, accounts, &call, &none, message)
         }
     }
@@ -94,7 +94,7 @@ fn answer_by_octets<F: ReadAt>(
     ensures refusal { IfErr result (MayRefuse (IsFallible (F.content accounts.now.file) (F.fails accounts.now.file) ⊎ AreUnusable octets.now) message.now) }
 {
     if !asks_by_certificate(alloc, message)? {
-        let unasked = Offer { is_offered: true };
+        let unasked = RefusedPkinit { is_offered: true };
         return answer_by(alloc, accounts, call, &unasked, message);
     }
     match means_in(alloc, octets) {

@@ -1,6 +1,6 @@
 //! Why a realm's file can't be used.
 
-use krb_lookups::LookupFault;
+use krb_kdc::LookupFault;
 use std::io::ErrorKind;
 use thiserror::Error;
 
@@ -34,16 +34,16 @@ impl FileFault {
     }
 }
 
-/// What takes notice of a realm's file that can't be used, before the message is refused.
-pub trait Tells {
-    /// Takes notice of the fault.
-    fn tell(&self, fault: FileFault);
+/// Reports why a realm's file can't be used, before the message is refused.
+pub trait FaultReporter {
+    /// Reports the fault.
+    fn report(&self, fault: FileFault);
 }
 
-/// Takes no notice.
+/// Reports no fault.
 #[derive(Clone, Copy, Debug)]
-pub struct Untold;
+pub struct Silent;
 
-impl Tells for Untold {
-    fn tell(&self, _fault: FileFault) {}
+impl FaultReporter for Silent {
+    fn report(&self, _fault: FileFault) {}
 }

@@ -6,7 +6,7 @@
 //! answered by the certificate, the key and the anchor of that file, as [`means_in`] reads them (RFC 4556).
 //!
 //! A message is refused as `Unreadable` only if it is no request, and as `Accounts` only if the file may not be opened or read, or is
-//! damaged. `means_in` refuses a key that is too weak, and one that isn't the certificate's. The fault is given to [`Tells`] before the refusal is returned. What [`Headed`] reads, also in the header that it has read
+//! damaged. `means_in` refuses a key that is too weak, and one that isn't the certificate's. The fault is given to [`FaultReporter`] before the refusal is returned. What [`Headed`] reads, also in the header that it has read
 //! before, is what the file within has there.
 #![tactic(auto)]
 
@@ -15,16 +15,16 @@ mod asked;
 mod fault;
 mod headed;
 mod means;
-mod offer;
 mod opens;
 mod pkinit_fault;
 mod realm;
+mod refused_pkinit;
 
 pub use answer::answer_from;
-pub use fault::{FileFault, Tells, Untold};
+pub use fault::{FaultReporter, FileFault, Silent};
 pub use headed::Headed;
 pub use means::{PkinitMeans, PkinitParts, means_in, means_of};
-pub use offer::Offer;
 pub use opens::{AtPath, Opens};
 pub use pkinit_fault::PkinitFault;
 pub use realm::FileRealm;
+pub use refused_pkinit::RefusedPkinit;

@@ -1,29 +1,29 @@
 //! The responder over a file that is opened for each message.
 ghost use Rattle.std.specs.Prelude.{◌≡◌};
-ghost use Rattle.krb_lookups.specs.Answers.{refusal_of};
+ghost use Rattle.krb_kdc.specs.Answers.{refusal_of};
 
 use crate::answer::answer_from;
-use crate::fault::{FileFault, Tells};
+use crate::fault::{FaultReporter, FileFault};
 use crate::opens::Opens;
 use krb_account_files::AccountFile;
 use krb_frames::{AnswerRefusal, Responder};
-use krb_lookups::{LookupRefusal, begins_request, refusal_of};
+use krb_kdc::{LookupRefusal, begins_request, refusal_of};
 use krb_time::Moment;
 use std::alloc::Global;
 
 /// The realm of a file, as the responder of a frame loop. The file is opened anew for each request: its realm, its settings and its
 /// accounts count for that one, and so do its certificate, key and anchor. For bytes that begin no request nothing is opened.
 #[derive(Clone, Copy)]
-pub struct FileRealm<'a, O: Opens, T: Tells> {
+pub struct FileRealm<'a, O: Opens, T: FaultReporter> {
     /// What opens the file.
     pub accounts: &'a O,
-    /// What takes notice of a file that can't be used.
+    /// What reports why a file can't be used.
     pub faults: &'a T,
 }
 
-impl<'a, O: Opens, T: Tells> Responder for FileRealm<'a, O, T> {
+impl<'a, O: Opens, T: FaultReporter> Responder for FileRealm<'a, O, T> {
     ghost use Rattle.krb_file_realms.specs.Replies.{MayLack, RepliesFrom};
-    ghost use Rattle.krb_kdc_requests.specs.Begins.{BeginsRequest};
+    ghost use Rattle.krb_kdc.specs.Begins.{BeginsRequest};
 
     ghost replies = { λ own. RepliesFrom (O.opens own.accounts.now) O.File.content };
 
@@ -44,7 +44,7 @@ impl<'a, O: Opens, T: Tells> Responder for FileRealm<'a, O, T> {
         let file = match self.accounts.open() {
             Ok(file) => file,
             Err(kind) => {
-                self.faults.tell(FileFault::Unopened(kind));
+                self.faults.report(FileFault::Unopened(kind));
                 return Err(AnswerRefusal::Accounts);
             }
         };
@@ -53,18 +53,18 @@ impl<'a, O: Opens, T: Tells> Responder for FileRealm<'a, O, T> {
         drop(accounts);
         match answered {
             Ok(reply) => Ok(reply),
-            Err(refusal) => Err(told(self.faults, refusal)),
+            Err(refusal) => Err(reported(self.faults, refusal)),
         }
     }
 }
 
-// Gives notice of why the file can't be used, if there is no reply for that, and returns the refusal of the responder.
-fn told<T: Tells>(faults: &T, refusal: LookupRefusal) -> AnswerRefusal
+// Reports why the file can't be used, if there is no reply for that, and returns the refusal of the responder.
+fn reported<T: FaultReporter>(faults: &T, refusal: LookupRefusal) -> AnswerRefusal
     ensures { result ≡ refusal_of refusal }
 {
     if let LookupRefusal::Fault(fault) = refusal {
         if let Some(fault) = FileFault::of(fault) {
-            faults.tell(fault);
+            faults.report(fault);
         }
     }
     refusal_of(refusal)

@@ -1,5 +1,5 @@
-pub mod Answered
-mod Begins
-mod Granting
-mod Keyed
-mod Certificates
+mod NoRequest
+mod Refused
+mod Fetched
+mod Opened
+mod Answered

@@ -1,24 +1,29 @@
--- What a realm answers to a message.
-use Rattle.std.specs.Prelude.{ℕ, Option, None, Some, Result, Ok, Err}
-use Rattle.std.specs.Prelude.{Vec}
+-- Answers from accounts that are looked up.
+use Rattle.std.specs.Prelude.{Option, None, Some, Result, Ok, Err, Vec, ℕ}
 use Rattle.std.specs.Global.{Global}
 use Rattle.picky_asn1.specs.Bytes.{Bytes}
-use Rattle.krb_time.specs.Units.{Micros}
-use Rattle.krb_types.specs.RandomBytes.{Random}
-use Rattle.key_functions.specs.KeyFunctions.{KeysRecord}
 use Rattle.krb_frames.specs.declared.fault.AnswerRefusal.{AnswerRefusal}
-use Rattle.krb_frames.specs.declared.fault.AnswerRefusal.TheVariants.{Unreadable, Memory, Accounts}
-use Rattle.pkinit_requests.specs.PkinitRows.{pkinit_rows}
-use Rattle.krb_replies.specs.Replies.{Replies}
-use Rattle.krb_kdc.specs.Realm.{RealmState, call_to}
+use Rattle.krb_frames.specs.declared.fault.AnswerRefusal.TheVariants as responder
+use Rattle.krb_kdc.specs.Begins.{BeginsRequest, IsNoRequest}
+use Rattle.krb_kdc.specs.Faults.{MayFail}
+use Rattle.krb_kdc.specs.declared.fault.LookupFault.TheVariants as fault
+use Rattle.krb_kdc.specs.declared.fault.LookupRefusal.{LookupRefusal}
+use Rattle.krb_kdc.specs.declared.fault.LookupRefusal.TheVariants.{Unreadable, Fault}
 
--- the reply, none if the message is no request; or memory ran out. A realm has its accounts in memory, so they can always be read
-abbrev pub IsAnswer : (Option Bytes → Type 0) → Result (Vec ℕ Global) AnswerRefusal → Type 0
-IsAnswer replies (Ok reply) = replies (Some reply.items)
-IsAnswer replies (Err Unreadable) = replies None
-IsAnswer replies (Err Memory) = Unit {0}
-IsAnswer replies (Err Accounts) = ⊥
+-- The reply, none if the message is no request. Or an account was not looked up, or memory ran out.
+abbrev pub IsAnswerBy : (Option Bytes → Type 0) → Result (Vec ℕ Global) LookupRefusal → Type 0
+IsAnswerBy replies (Ok reply) = replies (Some reply.items)
+IsAnswerBy replies (Err Unreadable) = replies None
+IsAnswerBy replies (Err (Fault fault)) = Unit {0}
 
--- the reply that a realm with these key functions may give to a message at a moment, with random bytes
-abbrev pub RealmReplies : RealmState → KeysRecord → Bytes → Micros → Random → Option Bytes → Type 0
-RealmReplies realm keys message moment words = Replies (call_to realm moment words) (pkinit_rows realm.trust keys) message
+-- The message is no request. Or it begins as one, and memory ran out or it may be that an account can't be read.
+abbrev pub MayRefuse : Type 0 → Bytes → LookupRefusal → Type 0
+MayRefuse may message Unreadable = IsNoRequest message
+MayRefuse may message (Fault fault) = BeginsRequest message × MayFail may fault
+
+-- The refusal of a responder. An account that can't be read is refused by a refusal of its own.
+abbrev pub refusal_of : LookupRefusal → AnswerRefusal
+refusal_of Unreadable = responder.Unreadable
+refusal_of (Fault fault.Memory) = responder.Memory
+refusal_of (Fault (fault.Failed kind)) = responder.Accounts
+refusal_of (Fault fault.Damaged) = responder.Accounts

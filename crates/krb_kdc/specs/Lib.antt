@@ -1,3 +1,7 @@
-pub mod Settings
-pub mod Realm
+pub mod Faults
+pub mod Begins
+pub mod Few
 pub mod Answers
+pub mod Calls
+pub mod Tickets
+pub mod Involved

@@ -1,21 +1,27 @@
-//! A KDC (RFC 4120): a realm that answers the requests of clients.
+//! A KDC (RFC 4120): the replies to requests, from accounts that are looked up one by one in whatever holds them: memory, a file, a table
+//! of a database, a directory.
 //!
-//! A [`Realm`] has a name, settings and accounts. [`Realm::answer`] gives the reply to a message at a moment, and [`serve`] answers the
-//! frames of a stream. A realm grants by password, and by certificate where its settings have an anchor and an own certificate
-//! (RFC 4556). Its signatures and key agreements are the caller's [`KeyFunctions`](key_functions::KeyFunctions).
+//! A request involves at most three accounts. [`answer_by`] looks these up and no others. [`Lookup`] is what holds them, and
+//! [`Pkinit`](pkinit_interface::Pkinit) judges requests by certificate. `krb_memory_realms` and `krb_file_realms` have realms over it.
 //!
-//! A reply is what `Replies` allows, or `Unreadable`. `Memory` is returned only for bytes that begin with the identifier octet of an
-//! AS-REQ or of a TGS-REQ (`BeginsRequest`). Each request has exactly one reply at each moment (`has_reply`, law `one_reply`). Making a
-//! realm, adding, removing and rekeying accounts follow the rules of names and keys, as in a finite map. A refused command changes
-//! nothing, and `Memory` hides no other refusal. Every realm has the account of its ticket-granting service, and each account's key is
-//! one of its suite.
+//! A reply of `answer_by` is that of the realm with all accounts that the `Lookup` holds. `Unreadable` is returned only for a message that
+//! is no request, and `Fault` only for bytes that begin one (`BeginsRequest`). An account that can't be read is a fault, and neither a
+//! missing account nor a KRB-ERROR. Accounts in memory can always be read. Each request has a reply (law `has_reply`), by `one_reply` of
+//! `krb_replies` exactly one.
 #![tactic(auto)]
 
+mod answer;
+mod begins;
+mod call;
+mod fault;
+mod few;
 pub mod laws;
-mod realm;
-mod respond;
-mod settings;
+mod lookup;
+mod ticket;
 
-pub use realm::{Realm, words_needed};
-pub use respond::{Answering, serve, serve_bytes};
-pub use settings::{Settings, is_certificate};
+pub use answer::answer_by;
+pub use begins::begins_request;
+pub use call::LookupCall;
+pub use fault::{LookupFault, LookupRefusal, refusal_of};
+pub use lookup::Lookup;
+pub use ticket::presented_part;

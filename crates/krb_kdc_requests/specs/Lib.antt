@@ -1,4 +1,3 @@
-pub mod Begins
 pub mod Call
 pub mod Requests
 pub mod Calls

@@ -6,13 +6,11 @@
 //! memory runs out (`IsJudged`).
 #![tactic(auto)]
 
-mod begins;
 mod call;
 mod read;
 mod requests;
 mod span;
 
-pub use begins::has_request_octet;
 pub use call::Call;
 pub use read::{read_as_req, read_tgs_req};
 pub use requests::{

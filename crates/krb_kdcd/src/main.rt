@@ -7,7 +7,7 @@
 //! It is safe, returns, and meets what its calls require. No contract says what standard output holds.
 #![tactic(auto)]
 
-use krb_daemon::run_process;
+use krb_database_kdc::run_process;
 use std::process::ExitCode;
 
 fn main(rt: HostRuntime) -> ExitCode {

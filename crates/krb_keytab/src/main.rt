@@ -18,9 +18,12 @@ mod copying;
 mod listing;
 mod mit;
 
-use krb_commands::{Stop, arguments_of, is_word, print_line, usage};
-use krb_version::VERSION;
+use krb_commands::{Stop, arguments_of, is_word, print_line, print_version, usage};
+use krb_programs::stop_program;
 use std::process::ExitCode;
+
+/// The program's name.
+const PROGRAM: &str = "krb_keytab";
 
 /// What `--help` prints, and what a run with other arguments expects.
 const USAGE: &str = "usage:
@@ -32,13 +35,10 @@ principal's entries are copied. ETYPE is a name, as aes256-cts-hmac-sha1-96, or 
 as \\x and two hexadecimal digits. Where it says that MIT's library reads no further, stock services see neither that entry nor those behind.";
 
 fn main(rt: HostRuntime) -> ExitCode {
-    let stop = match run(&rt) {
-        Ok(()) => return ExitCode::SUCCESS,
-        Err(stop) => stop,
-    };
-    // Where standard error takes nothing, the status still tells.
-    let _ = eprintln!(rt; "krb_keytab: {stop}");
-    ExitCode::from(stop.status())
+    match run(&rt) {
+        Ok(()) => ExitCode::SUCCESS,
+        Err(stop) => stop_program(&rt, PROGRAM, &stop, stop.status()),
+    }
 }
 
 /// Runs the command of the arguments.
@@ -46,10 +46,7 @@ fn run(rt: &HostRuntime) -> Result<(), Stop> {
     let arguments = arguments_of(rt)?;
     match arguments.as_slice() {
         [word] if is_word(word, "--help") => print_line(rt, USAGE),
-        [word] if is_word(word, "--version") => print_line(
-            rt,
-            format_args!("krb_keytab {VERSION}"),
-        ),
+        [word] if is_word(word, "--version") => print_version(rt, PROGRAM),
         [word, path] if is_word(word, "list") => listing::list(rt, path.as_str()),
         [word, from, to, words @ ..] if is_word(word, "copy") => {
             copying::copy(rt, from.as_str(), to.as_str(), words)

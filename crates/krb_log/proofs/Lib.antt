@@ -1,4 +1,3 @@
 mod Told
-mod Opened
 mod Visible
 mod OneComponent

@@ -4,7 +4,7 @@ ghost use Rattle.std.specs.Option.{option_copied};
 ghost use Rattle.decision_tables.specs.Tables.{as_made};
 ghost use Rattle.krb_accounts.specs.Accounts.{Look};
 ghost use Rattle.krb_kdc_requests.specs.Requests.{account_of, body_of, client_of};
-ghost use Rattle.krb_lookups.specs.Faults.{MayFail};
+ghost use Rattle.krb_kdc.specs.Faults.{MayFail};
 ghost use Rattle.krb_log.specs.Explanations.{as_told, explained, failed_told, reason_told, tgs_told, told_of, untold};
 ghost use Rattle.krb_log.specs.Reasons.{preauthentication_reason};
 
@@ -13,8 +13,8 @@ use crate::presented::request_told;
 use crate::reason::Reason;
 use krb_accounts::Account;
 use krb_constants::error_codes::KDC_ERR_PREAUTH_FAILED;
+use krb_kdc::{Lookup, LookupFault};
 use krb_kdc_requests::{client_of, read_as_req, read_tgs_req};
-use krb_lookups::{Lookup, LookupFault};
 use krb_messages::messages::KdcReq;
 use krb_types::krbtgt_of;
 use picky_asn1::wrapper::GeneralStringAsn1;

@@ -1,8 +1,5 @@
 //! The ticket that a refused TGS request presents.
 ghost use Rattle.std.specs.Prelude.{◌≡◌, IfOk};
-ghost use Rattle.krb_ap_requests.specs.ApTable.{enc_part_in};
-ghost use Rattle.krb_ap_requests.specs.Messages.{IsTicketPart};
-ghost use Rattle.picky_asn1_der.specs.Found.{IsFound};
 ghost use Rattle.krb_log.specs.Explanations.{carried_told, part_reason, part_told, request_told, told_of};
 ghost use Rattle.krb_log.specs.Reasons.{authenticator_reason, of_integrity, refused_reason};
 
@@ -10,11 +7,12 @@ use crate::explanation::Explanation;
 use crate::name::shown_name;
 use crate::reason::Reason;
 use krb_accounts::Account;
-use krb_ap_requests::{check_authenticator, enc_part_in, open_ticket, read_ap_req};
+use krb_ap_requests::{check_authenticator, read_ap_req};
 use krb_constants::error_codes::KRB_AP_ERR_BAD_INTEGRITY;
 use krb_constants::key_usages;
 use krb_constants::padata_types::PA_TGS_REQ;
 use krb_encrypted_data::suite_of;
+use krb_kdc::presented_part;
 use krb_kdc_requests::padata_in;
 use krb_messages::messages::{ApReqInner, KdcReq};
 use krb_tickets::first_of;
@@ -122,31 +120,5 @@ fn refused_reason(part: &EncTicketPartInner, code: u32) -> Reason
     match suite_of(&part.key.0) {
         Some(_) => Reason::Authenticator,
         None => Reason::SessionKey,
-    }
-}
-
-// The part of the ticket of an AP request, or none where this account's key doesn't open it.
-fn presented_part(
-    alloc: Global,
-    granting: &Account,
-    ap_req: &ApReqInner,
-) -> Result<Option<EncTicketPartInner>, AllocError>
-    ensures { IfOk result (IsFound (IsTicketPart granting.now.suite granting.now.key (enc_part_in ap_req.now))) }
-{
-    match open_ticket(alloc, granting.key(), enc_part_in(ap_req)) {
-        Ok(part) => Ok(Some(part)),
-        Err(Refusal::Krb(_)) => Ok(None),
-        Err(Refusal::Memory) => Err(AllocError),
-    }
-}
-
-// The reason, if the code is KRB_AP_ERR_BAD_INTEGRITY.
-fn of_integrity(code: u32, reason: Reason) -> Option<Reason>
-    ensures { result ≡ of_integrity code reason }
-{
-    if code == KRB_AP_ERR_BAD_INTEGRITY {
-        Some(reason)
-    } else {
-        None
     }
 }

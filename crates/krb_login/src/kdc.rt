@@ -1,29 +1,22 @@
 //! The KDC at the other end of standard input and output.
 ghost use Rattle.std.specs.Prelude.{◌≡◌, IfOk, length};
+ghost use Rattle.krb_commands.specs.declared.requests.TheConstants.{WORDS_TAKEN};
 
+use crate::PROGRAM;
 use crate::arguments::Settings;
-use byte_streams::Watched;
-use krb_clock::now;
-use krb_commands::{Stop, failed};
+use krb_commands::{RandomFile, Stop, WORDS_TAKEN, failed, moment_or_now};
 use krb_frames::{FRAME_LIMIT, ServeFault, read_frame, write_frame};
+use krb_programs::{Streams, say};
 use krb_time::{MICROSECONDS_IN_SECOND, Moment};
 use picky_asn1::date::GeneralizedTime;
 use std::fmt;
-use std::fs::{self, File};
-use std::io::{BufReader, Read, Stdin, Stdout};
-
-/// How many random octets a request takes.
-pub(crate) const WORDS_TAKEN: usize = 96;
 
 /// The streams to and from a KDC, and a file of random octets.
 #[derive(Drop)]
 pub(crate) struct Kdc<'a> {
     rt: &'a HostRuntime,
-    reader: Watched<BufReader<Stdin>>,
-    writer: Watched<Stdout>,
-    words: File,
-    /// The path of the random octets.
-    words_path: &'a str,
+    streams: Streams,
+    words: RandomFile<'a>,
     /// The moment of each request, if it isn't the clock's.
     set_moment: Option<Moment>,
     /// For how many seconds tickets are asked for.
@@ -43,16 +36,12 @@ pub(crate) struct Occasion {
 impl<'a> Kdc<'a> {
     /// The KDC at standard input and output, with random octets, moments and the lifetime as the settings say.
     pub(crate) fn open(rt: &'a HostRuntime, settings: &Settings<'a>) -> Result<Kdc<'a>, Stop> {
-        let words = open_words(rt, settings.words)?;
-        let Ok(input) = BufReader::new(rt.alloc(), rt.stdin()) else {
-            return Err(Stop::Memory);
-        };
+        let words = RandomFile::open(rt, settings.words)?;
+        let streams = Streams::open(rt)?;
         Ok(Kdc {
             rt,
-            reader: Watched::new(input),
-            writer: Watched::new(rt.stdout()),
+            streams,
             words,
-            words_path: settings.words,
             set_moment: settings.moment,
             lifetime: settings.lifetime,
             is_verbose: settings.is_verbose,
@@ -61,20 +50,11 @@ impl<'a> Kdc<'a> {
 
     /// The moment and the end of the next request, and the next random octets.
     pub(crate) fn occasion(&mut self) -> Result<Occasion, Stop>
-        ensures { IfOk result (λ occasion. length occasion.words ≡ 96) }
+        ensures { IfOk result (λ occasion. length occasion.words ≡ WORDS_TAKEN) }
     {
         let alloc = self.rt.alloc();
-        let moment = self.moment()?;
-        let mut words = [0; WORDS_TAKEN];
-        if self.words.read_exact(&mut words).is_err() {
-            return Err(failed(
-                alloc,
-                format_args!(
-                    "{}: expected 96 random octets for each request",
-                    self.words_path
-                ),
-            ));
-        }
+        let moment = moment_or_now(self.rt, self.set_moment)?;
+        let words = self.words.take_words(alloc, "request")?;
         let micros = self.lifetime.saturating_mul(MICROSECONDS_IN_SECOND);
         match Moment::new(moment.micros().saturating_add(micros)) {
             Some(end) => Ok(Occasion {
@@ -86,25 +66,10 @@ impl<'a> Kdc<'a> {
         }
     }
 
-    fn moment(&self) -> Result<Moment, Stop> {
-        let moment = match self.set_moment {
-            Some(moment) => Some(moment),
-            None => now(self.rt),
-        };
-        match moment {
-            Some(moment) => Ok(moment),
-            None => Err(failed(
-                self.rt.alloc(),
-                "the clock can't be read: expected a time before the year 10000",
-            )),
-        }
-    }
-
     /// Says a line on standard error if the user wants to know. It shows no secret.
     pub(crate) fn say<D: fmt::Display + Drop>(&self, line: D) {
         if self.is_verbose {
-            // Where standard error takes nothing, the login goes on.
-            let _ = eprintln!(self.rt; "krb_login: {line}");
+            say(self.rt, PROGRAM, line);
         }
     }
 
@@ -114,8 +79,8 @@ impl<'a> Kdc<'a> {
         if FRAME_LIMIT < request.len() {
             return Err(failed(alloc, "the request has more than 65536 octets"));
         }
-        let replied = match write_frame(alloc, &mut self.writer, request) {
-            Ok(()) => read_frame(alloc, &mut self.reader),
+        let replied = match write_frame(alloc, &mut self.streams.writer, request) {
+            Ok(()) => read_frame(alloc, &mut self.streams.reader),
             Err(fault) => Err(fault),
         };
         match replied {
@@ -126,13 +91,6 @@ impl<'a> Kdc<'a> {
             )),
             Err(fault) => Err(stop_of(self.rt, fault)),
         }
-    }
-}
-
-fn open_words(rt: &HostRuntime, path: &str) -> Result<File, Stop> {
-    match fs::open(rt, path) {
-        Ok(file) => Ok(file),
-        Err(fault) => Err(failed(rt.alloc(), format_args!("{path} can't be read: {fault}"))),
     }
 }
 

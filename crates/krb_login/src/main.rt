@@ -34,9 +34,12 @@ mod secret;
 
 use crate::arguments::{ONE_MEANS, login_of, without_flag};
 use crate::login::log_in;
-use krb_commands::{Stop, arguments_of, is_word, print_line, usage};
-use krb_version::VERSION;
+use krb_commands::{Stop, arguments_of, is_word, print_line, print_version, usage};
+use krb_programs::stop_program;
 use std::process::ExitCode;
+
+/// The program's name.
+pub(crate) const PROGRAM: &str = "krb_login";
 
 /// What `--help` prints.
 const USAGE: &str = "usage:
@@ -61,13 +64,10 @@ Requests go to standard output and replies come from standard input, each after 
 krb_connect KDC -- krb_login .. is the client.";
 
 fn main(rt: HostRuntime) -> ExitCode {
-    let stop = match run(&rt) {
-        Ok(()) => return ExitCode::SUCCESS,
-        Err(stop) => stop,
-    };
-    // Where standard error takes nothing, the status still tells.
-    let _ = eprintln!(rt; "krb_login: {stop}");
-    ExitCode::from(stop.status())
+    match run(&rt) {
+        Ok(()) => ExitCode::SUCCESS,
+        Err(stop) => stop_program(&rt, PROGRAM, &stop, stop.status()),
+    }
 }
 
 fn run(rt: &HostRuntime) -> Result<(), Stop> {
@@ -78,7 +78,7 @@ fn run(rt: &HostRuntime) -> Result<(), Stop> {
             format_args!("{ONE_MEANS}; and USER@REALM: see --help"),
         )),
         [word] if is_word(word, "--help") || is_word(word, "-h") => print_line(rt, USAGE),
-        [word] if is_word(word, "--version") => print_line(rt, format_args!("krb_login {VERSION}")),
+        [word] if is_word(word, "--version") => print_version(rt, PROGRAM),
         _ => {
             let arguments = without_flag(rt.alloc(), arguments)?;
             let login = login_of(rt, &arguments)?;

@@ -3,15 +3,14 @@
 use crate::arguments::{KeyFile, Login};
 use crate::refusals::not_made;
 use krb_client::{ByKey, Client};
-use krb_commands::{Stop, failed, keytab_in, refused};
+use krb_commands::{Stop, keytab_in, refused, unread};
 use krb_crypto::{CipherSuite, Key};
 use krb_etype_info::{KeyHint, client_by_hint, is_one_of};
 use krb_keytabs::KeytabRecord;
+use krb_programs::read_front;
 use krb_types::{is_same_name, is_same_realm};
 use result_pairs::both;
 use std::alloc::{AllocError, Global};
-use std::fs;
-use std::io::{self, ErrorKind, Read};
 
 /// How many octets a password may have.
 const PASSWORD_LIMIT: usize = 4_096;
@@ -50,19 +49,10 @@ fn password_in(rt: &HostRuntime, path: &str) -> Result<Secret, Stop> {
 
 // The octets of a file, of which one more than a password may have.
 fn front_of(rt: &HostRuntime, path: &str) -> Result<Vec<u8>, Stop> {
-    match read_front(rt, path) {
+    match read_front(rt, path, PASSWORD_LIMIT as u64 + 1) {
         Ok(octets) => Ok(octets),
-        Err(fault) if fault.kind() == ErrorKind::OutOfMemory => Err(Stop::Memory),
-        Err(fault) => Err(failed(rt.alloc(), format_args!("{path} can't be read: {fault}"))),
+        Err(fault) => Err(unread(rt.alloc(), path, fault)),
     }
-}
-
-fn read_front(rt: &HostRuntime, path: &str) -> io::Result<Vec<u8>> {
-    let file = fs::open(rt, path)?;
-    let mut octets = Vec::new(rt.alloc());
-    file.take(PASSWORD_LIMIT as u64 + 1)
-        .read_to_end(&mut octets)?;
-    Ok(octets)
 }
 
 // What precedes the first line feed.

@@ -5,7 +5,7 @@ use Rattle.krb_accounts.specs.Account.{AccountRecord}
 use Rattle.krb_types.specs.TicketGranting.{krbtgt_of}
 use Rattle.krb_logins.specs.Honest.{IsGranting}
 use Rattle.krb_realm.specs.Logins.{realm_record}
-use Rattle.krb_kdc.specs.Realm.{RealmState, has_krbtgt}
+use Rattle.krb_memory_realms.specs.Realm.{RealmState, has_krbtgt}
 
 -- an account that is found is the one
 pub granting : (realm : RealmState) → has_krbtgt realm.name realm.accounts ≡ true → IsGranting (realm_record realm)

@@ -14,7 +14,7 @@ use Rattle.krb_client.specs.declared.refusal.AskRefusal.TheVariants.{BadCertific
 use Rattle.key_functions.specs.KeyFunctions.{KeysRecord}
 use Rattle.pkinit_trust.specs.Anchors.{AnchorRecord}
 use Rattle.pkinit_clients.specs.Means.{by_certificate}
-use Rattle.krb_kdc.specs.Settings.{IsCertificateIf}
+use Rattle.krb_memory_realms.specs.Settings.{IsCertificateIf}
 
 -- how a client authenticates itself: by a key shared with its realm, or by a certificate, with the anchor of the realm's certificate
 pub data ClientBy : Type 0 where

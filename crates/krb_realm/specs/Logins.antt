@@ -18,7 +18,7 @@ use Rattle.krb_logins.specs.Steps.{IsAnswered, IsAsAsked, IsTgsAsked}
 use Rattle.krb_logins.specs.declared.refusal.LoginRefusal.{LoginRefusal}
 use Rattle.krb_logins.specs.declared.refusal.LoginRefusal.TheVariants.{Answered, Asked, Taken}
 use Rattle.krb_ap_exchange.specs.ApExchanges.{IsStep, Made, sent_as}
-use Rattle.krb_kdc.specs.Realm.{RealmState}
+use Rattle.krb_memory_realms.specs.Realm.{RealmState}
 
 -- the client's AS request of a login and what it then remembers, or why the login ends there (RFC 4120, section 3.1.1)
 unfoldable pub AsAsk : ClientRecord → MeansRecord → LoginRecord → Result (Made × AsAskedRecord) LoginRefusal → Type 0

@@ -4,7 +4,7 @@ ghost use Rattle.krb_types.specs.RandomBytes.{AreEnoughForRequest};
 ghost use Rattle.krb_accounts.specs.Names.{AreComponents, IsRealmName, are_components, parts};
 ghost use Rattle.krb_client.specs.Client.{client_of};
 ghost use Rattle.krb_client.specs.Refusals.{IsMemoryAside, IsTaken};
-ghost use Rattle.krb_kdc.specs.Settings.{IsCertificateIf};
+ghost use Rattle.krb_memory_realms.specs.Settings.{IsCertificateIf};
 ghost use Rattle.krb_realm.specs.Clients.{IsNoClient};
 ghost use Rattle.krb_realm.specs.HeldClients.{client_by};
 
@@ -12,7 +12,7 @@ use crate::client_means::{ClientMeans, Held};
 use key_functions::KeyFunctions;
 use krb_client::{ApAsked, AsAsked, AskRefusal, Credential, TakeRefusal, TgsAsked};
 use krb_crypto::CipherSuite;
-use krb_kdc::is_certificate;
+use krb_memory_realms::is_certificate;
 use krb_time::Moment;
 use picky_asn1::date::GeneralizedTime;
 use pkinit_trust::Anchor;

@@ -10,8 +10,8 @@ ghost use Rattle.krb_realm.specs.Logins.{realm_record};
 use crate::client::Client;
 use crate::client_means::Held;
 use key_functions::NoKeys;
-use krb_kdc::Realm;
 use krb_logins::{LoginInput, is_honest_by_key};
+use krb_memory_realms::Realm;
 use krb_service::Service;
 use std::alloc::Global;
 

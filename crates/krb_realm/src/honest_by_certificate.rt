@@ -13,8 +13,8 @@ use crate::certified_honesty::is_certified_login_honest;
 use crate::client::Client;
 use crate::client_means::{Held, by_certificate};
 use key_functions::KeyFunctions;
-use krb_kdc::Realm;
 use krb_logins::LoginInput;
+use krb_memory_realms::Realm;
 use krb_service::Service;
 use std::alloc::Global;
 

@@ -13,12 +13,12 @@ pub use crate::certified_laws::{agreement_granted, agreement_taken, one_key_by_c
 use crate::client::Client;
 use key_functions::KeyFunctions;
 pub use krb_crypto::laws::has_sealed;
-use krb_kdc::Settings;
-pub use krb_kdc::laws::{
+pub use krb_logins::laws::ap_request_presents_choice;
+use krb_memory_realms::Settings;
+pub use krb_memory_realms::laws::{
     as_body_is_part, body_is_part, has_reply, judged_is_part, of_involved_alone, one_reply,
     padata_is_part, verified_is_part,
 };
-pub use krb_logins::laws::ap_request_presents_choice;
 pub use krb_service::ap_laws::{
     has_judgement, has_presentation, has_reply_to, one_presentation, received_as_chosen,
 };

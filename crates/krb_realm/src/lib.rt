@@ -2,7 +2,7 @@
 //!
 //! A [`Realm`] has a name, settings and accounts. [`Realm::answer`] gives the reply to a message at a moment, and
 //! [`serve`] answers the frames of a stream. A [`Client`] asks and takes replies, and a [`Service`] admits each of its
-//! requests once. What the parts are is in crates of their own, the realm in `krb_kdc`, which this one hands on under one name.
+//! requests once. What the parts are is in crates of their own, the realm in `krb_memory_realms`, which this one hands on under one name.
 //!
 //! A realm grants by password, and by certificate where its settings have an anchor and an own certificate (RFC 4556). Its
 //! signatures and key agreements are the caller's [`KeyFunctions`]. A realm that grants by password alone takes [`NoKeys`].
@@ -37,8 +37,8 @@ pub use krb_ap_requests::AdmitRefusal;
 pub use krb_client::{ApAsked, AsAsked, AskRefusal, Credential, TakeRefusal, TgsAsked};
 pub use krb_crypto::{ChecksumSuite, CipherSuite, Key};
 pub use krb_frames::{AnswerRefusal, Responder, ServeFault, SoleResponder};
-pub use krb_kdc::{Answering, Realm, Settings, serve, serve_bytes, words_needed};
 pub use krb_logins::{LoginInput, LoginMoments, LoginRefusal};
+pub use krb_memory_realms::{Answering, Realm, Settings, serve, serve_bytes, words_needed};
 pub use krb_service::{Admission, Service};
 pub use krb_time::Moment;
 pub use krb_types::data_types::{EncryptionKey, PrincipalName, Ticket};

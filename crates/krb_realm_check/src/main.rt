@@ -8,30 +8,34 @@
 #![tactic(auto)]
 
 use anyhow::bail;
-use krb_program::{FileCheck, check_file, read_file};
+use krb_programs::stop_program;
+use krb_settings_kdc::{FileCheck, check_file, settings_at};
 use std::os::unix::fs::PermissionsExt;
 use std::process::ExitCode;
 use std::{env, fs};
+
+/// The program's name.
+const PROGRAM: &str = "krb_realm_check";
+
+/// The program's status where the file is no realm's, or where it can't say so.
+const REFUSED: u8 = 1;
 
 /// The bit of a file's mode with which others may read it.
 const READ_BY_OTHERS: u32 = 0o004;
 
 fn main(rt: HostRuntime) -> ExitCode {
-    let fault = match check(&rt) {
-        Ok(true) => return ExitCode::SUCCESS,
-        Ok(false) => return ExitCode::FAILURE,
-        Err(fault) => fault,
-    };
-    // Where standard error takes nothing, the status still tells.
-    let _ = eprintln!(rt; "krb_realm_check: {fault}");
-    ExitCode::FAILURE
+    match check(&rt) {
+        Ok(true) => ExitCode::SUCCESS,
+        Ok(false) => ExitCode::from(REFUSED),
+        Err(fault) => stop_program(&rt, PROGRAM, &fault, REFUSED),
+    }
 }
 
 /// Whether the file is a realm's, which is printed.
 fn check(rt: &HostRuntime) -> anyhow::Result<bool> {
     let path = path_of(rt)?;
     let path = path.as_str();
-    let text = match read_file(rt, path) {
+    let text = match settings_at(rt, path) {
         Ok(text) => text,
         Err(fault) => bail!("{path} can't be read: {fault}"),
     };

@@ -28,8 +28,8 @@ mod take;
 mod told;
 mod words;
 
-use krb_program::run_process;
 use krb_realm::{AdmitRefusal, AskRefusal, TakeRefusal};
+use krb_settings_kdc::run_process;
 use line::line_of;
 use replay_rows::{Row, Rows, Told, replay};
 use stage::Stage;

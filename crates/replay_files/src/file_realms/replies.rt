@@ -1,7 +1,7 @@
 //! The replies of a file's realm.
 
 use anyhow::{Context, bail};
-use krb_file_realms::{AtPath, FileRealm, Untold};
+use krb_file_realms::{AtPath, FileRealm, Silent};
 use krb_frames::{AnswerRefusal, Responder};
 use krb_log::{Entry, Explains, RefusalsOfFile};
 use krb_time::Moment;
@@ -17,7 +17,7 @@ pub(crate) fn reply_of(
     let accounts = AtPath { files: rt, path };
     let realm = FileRealm {
         accounts: &accounts,
-        faults: &Untold,
+        faults: &Silent,
     };
     Ok(realm.answer(rt.alloc(), message, moment, &words()))
 }

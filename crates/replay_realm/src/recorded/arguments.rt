@@ -1,7 +1,8 @@
 //! Runs with arguments, over files.
 
 use crate::recorded::rows::Rows;
-use krb_program::{read_file, run_with_arguments};
+use crate::recorded::runs::tell_stop;
+use krb_settings_kdc::{run_with_arguments, settings_at};
 use replay_rows::{Row, Told};
 use std::alloc::{AllocError, Global};
 
@@ -23,13 +24,13 @@ impl Rows for Arguments {
 
 /// Writes the status and the line of a run with these arguments and one frame as its input, and whether there was output.
 fn tell_end(rt: &HostRuntime, arguments: &[String], told: &mut Told) -> anyhow::Result<()> {
-    let frame = read_file(rt, "frame")?;
+    let frame = settings_at(rt, "frame")?;
     let mut input = frame.as_slice();
     let mut output = Vec::new(rt.alloc());
-    let outcome = run_with_arguments(rt, arguments, &mut input, &mut output);
-    told.show(&outcome.status);
-    told.put(" ");
-    told.put(outcome.line);
+    match run_with_arguments(rt, arguments, &mut input, &mut output) {
+        Ok(_) => told.put("0 "),
+        Err(stop) => tell_stop(stop, " ", told),
+    }
     if !output.is_empty() {
         told.put("and output");
     }

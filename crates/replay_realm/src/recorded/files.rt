@@ -1,7 +1,7 @@
 //! Settings files, and what is said of them.
 
 use crate::recorded::rows::Rows;
-use krb_program::{FileCheck, check_file, read_file};
+use krb_settings_kdc::{FileCheck, check_file, settings_at};
 use replay_rows::{Row, Told};
 use std::alloc::Global;
 
@@ -38,7 +38,7 @@ impl Rows for NamedFiles {
         row.want();
         let settings = match name.strip_prefix("hex ") {
             Some(digits) => hex::decode(rt.alloc(), digits)?,
-            None => read_file(rt, name)?,
+            None => settings_at(rt, name)?,
         };
         tell_check(rt.alloc(), &settings, told)
     }

@@ -1,8 +1,8 @@
 //! Runs with a settings file: status, line and output.
 
 use crate::recorded::rows::Rows;
-use krb_program::{Outcome, Stop, run_settings};
 use krb_realm::Moment;
+use krb_settings_kdc::{PROGRAM, Stop, run_settings};
 use replay_rows::{Row, Told};
 use std::alloc::Global;
 
@@ -41,22 +41,27 @@ impl Rows for Runs {
 
 fn tell_run(alloc: Global, run: &Run<'_>, told: &mut Told) {
     let mut output = Vec::new(alloc);
-    let outcome = outcome_of(alloc, run, &mut output);
-    told.show(&outcome.status);
-    told.put(" | ");
-    told.put(if outcome.line.is_empty() {
-        "-"
-    } else {
-        outcome.line
-    });
+    match end_of(alloc, run, &mut output) {
+        Ok(_) => told.put("0 | -"),
+        Err(stop) => tell_stop(stop, " | ", told),
+    }
     told.put(" | ");
     told.put(if output.is_empty() { "-" } else { "" });
     told.octets(&output);
 }
 
-fn outcome_of(alloc: Global, run: &Run<'_>, output: &mut Vec<u8>) -> Outcome {
+/// Writes the status of a stop, and its line on standard error behind a separator.
+pub(crate) fn tell_stop(stop: Stop, separator: &str, told: &mut Told) {
+    told.show(&stop.status());
+    told.put(separator);
+    told.put(PROGRAM);
+    told.put(": ");
+    told.show(&stop);
+}
+
+fn end_of(alloc: Global, run: &Run<'_>, output: &mut Vec<u8>) -> Result<u64, Stop> {
     let Some(moment) = Moment::from_text(run.moment.as_bytes()) else {
-        return Outcome::of(Err(Stop::BadArguments));
+        return Err(Stop::BadArguments);
     };
     let mut words = run.words.as_slice();
     let mut input = run.input.as_slice();

@@ -1,8 +1,8 @@
 use Rattle.std.proofs.Common.{◌⊎◌, sym, subst}
 use Rattle.krb_account_files.specs.Files.{IsFallible}
-use Rattle.krb_lookups.specs.Calls.{call_with}
-use Rattle.krb_lookups.specs.Faults.{MayFail}
-use Rattle.krb_lookups.specs.declared.fault.LookupFault.{LookupFault}
+use Rattle.krb_kdc.specs.Calls.{call_with}
+use Rattle.krb_kdc.specs.Faults.{MayFail}
+use Rattle.krb_kdc.specs.declared.fault.LookupFault.{LookupFault}
 use Rattle.pkinit_requests.specs.Trust.{trust_of}
 use Rattle.krb_file_realms.specs.Lacks.{AreUnusable}
 use Rattle.krb_file_realms.proofs.Answered.{unusable}

@@ -1,6 +1,8 @@
-use Rattle.krb_replies.proofs.HasReply.{has_reply}
-use Rattle.pkinit_requests.specs.PkinitRows.{pkinit_rows}
+use Rattle.krb_kdc.specs.Calls.{call_with}
 use Rattle.krb_kdc.proofs.laws.has_reply.Goals as goal
 
 pub returns : goal.returns
-returns c = λ call trust keys request. has_reply call (pkinit_rows trust keys) request
+returns g c = λ all keyed.
+    c.has_reply.ensures (call_with c.args.call.now all) c.args.message.now
+    (record { in_time = c.micros-micros.ensures.in_range; enough = c.requires; bytes = c.is_slice-2.ensures.bytes; keyed = keyed })
+    c.is_slice.ensures.bytes c.is_slice.ensures.few

@@ -4,7 +4,7 @@ use Rattle.krb_realm.specs.Clients.{means_of}
 use Rattle.pkinit_requests.specs.Trust.{trust_of}
 use Rattle.pkinit_requests.specs.PkinitRows.{pkinit_rows}
 use Rattle.krb_logins.specs.Steps.{AreDecided}
-use Rattle.krb_kdc.proofs.Answered.{same_rows}
+use Rattle.krb_memory_realms.proofs.Answered.{same_rows}
 use Rattle.krb_realm.proofs.ClientMeans.{are_decided, same_means}
 use Rattle.krb_realm.proofs.laws.one_login.Goals as goal
 

@@ -1,7 +1,7 @@
 use Rattle.key_functions.specs.KeyFunctions.{no_functions}
 use Rattle.krb_logins.specs.Input.{login_of}
 use Rattle.krb_realm.specs.Logins.{realm_record}
-use Rattle.krb_kdc.proofs.Answered.{same_rows}
+use Rattle.krb_memory_realms.proofs.Answered.{same_rows}
 use Rattle.krb_realm.proofs.KeyedLogins.{keyed_run}
 use Rattle.krb_realm.proofs.GrantingRealms.{granting}
 use Rattle.krb_realm.proofs.login.keyed_ends_with_one_key.Goals as goal

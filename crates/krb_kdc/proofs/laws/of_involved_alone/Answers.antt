@@ -1,6 +1,0 @@
-use Rattle.krb_replies.proofs.Involved.{of_involved_alone}
-use Rattle.pkinit_requests.specs.PkinitRows.{pkinit_rows}
-use Rattle.krb_kdc.proofs.laws.of_involved_alone.Goals as goal
-
-pub returns : goal.returns
-returns c = λ trust keys. of_involved_alone (pkinit_rows trust keys)

@@ -1,6 +1,0 @@
-use Rattle.krb_replies.specs.Replies.{one_reply}
-use Rattle.pkinit_requests.specs.PkinitRows.{pkinit_rows}
-use Rattle.krb_kdc.proofs.laws.one_reply.Goals as goal
-
-pub returns : goal.returns
-returns c = λ call trust keys request. one_reply call (pkinit_rows trust keys) request

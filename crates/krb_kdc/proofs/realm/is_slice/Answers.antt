@@ -1,4 +1,0 @@
-use Rattle.krb_kdc.proofs.realm.is_slice.Goals as goal
-
-pub returns-clause-bytes : goal.returns-clause-bytes
-returns-clause-bytes c = λ i. (c.type_inv.octets i).fits

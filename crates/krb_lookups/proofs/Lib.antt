@@ -1,5 +1,0 @@
-mod NoRequest
-mod Refused
-mod Fetched
-mod Opened
-mod Answered

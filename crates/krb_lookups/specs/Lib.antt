@@ -1,8 +1,0 @@
-pub mod Faults
-pub mod Begins
-pub mod Few
-pub mod Answers
-pub mod Calls
-pub mod RealmReplies
-pub mod Tickets
-pub mod Involved

@@ -1,0 +1,4 @@
+pub mod Answered
+mod Granting
+mod Keyed
+mod Certificates

@@ -1,0 +1,6 @@
+use Rattle.krb_replies.proofs.HasReply.{has_reply}
+use Rattle.pkinit_requests.specs.PkinitRows.{pkinit_rows}
+use Rattle.krb_memory_realms.proofs.laws.has_reply.Goals as goal
+
+pub returns : goal.returns
+returns c = λ call trust keys request. has_reply call (pkinit_rows trust keys) request

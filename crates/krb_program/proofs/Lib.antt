@@ -1,5 +1,0 @@
-pub mod Adding
-pub mod Checking
-pub mod SoleRealm
-mod Ending
-pub mod Counts

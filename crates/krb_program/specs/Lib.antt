@@ -1,7 +1,0 @@
-pub mod Checks
-pub mod Files
-pub mod Realms
-pub mod Runs
-pub mod Devices
-pub mod Moments
-pub mod Outcomes

@@ -1,0 +1,4 @@
+pub mod Adding
+pub mod Checking
+pub mod SoleRealm
+mod Ending

@@ -1,0 +1,5 @@
+pub mod Checks
+pub mod Files
+pub mod Realms
+pub mod Runs
+pub mod Stops
