@@ -47,8 +47,7 @@ fn fill(bytes: &[u8], position: u64, buffer: &mut [u8]) -> Result<(), Fault>
     Ok(())
 }
 
-/// A file of the system, read by `pread`. No clause says what a file of the system contains. The clauses of this crate hold of each
-/// content that the reads agree with, if it doesn't change while the file is open.
+/// A file of the system, read by `pread`. No clause says what a file of the system contains, so the clauses on octets say nothing of it.
 #[derive(Debug, Drop)]
 pub struct FileAt<F> {
     /// The file.

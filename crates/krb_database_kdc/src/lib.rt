@@ -6,9 +6,10 @@
 //! regular file, or one octet repeated. It warns where others may use the database.
 //!
 //! The loop is [`serve_by_clock`](krb_programs::serve_by_clock). With [`FileRealm`](krb_file_realms::FileRealm) each reply is that of the
-//! realm of one opened file. [`command_of`] returns what the arguments ask for, as `command_in` says. A [`Stop`] is displayed as `stop_text`,
-//! where it shows no fault of the system's files. [`serve_database`] reads and writes nothing of its streams where it stops with status 1.
-//! What it serves, and [`run_process`], have no contract: they are proved safe, and to return.
+//! realm of one opened file, where its octets are known: those of a file of the system aren't. [`command_of`] returns what the arguments ask
+//! for, as `command_in` says. A [`Stop`] is displayed as `stop_text`, where it shows no fault of the system's files. [`serve_database`] reads
+//! and writes nothing of its streams where it stops with status 1. What it serves, and [`run_process`], have no contract: they are proved
+//! safe, and to return.
 #![tactic(auto)]
 
 mod arguments;

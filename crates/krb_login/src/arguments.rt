@@ -4,9 +4,9 @@ use crate::environment::{default_cache, default_realm};
 use krb_account_texts::suite_named;
 use krb_accounts::{LIFETIME_LIMIT, USUAL_LIFETIME, are_components};
 use krb_client::{AskRefusal, Client};
+use krb_client_exchanges::Wanted;
 use krb_commands::{Given, Stop, given_of, is_word, principal_in, usage};
 use krb_crypto::CipherSuite;
-use krb_etype_info::Wanted;
 use krb_time::Moment;
 use krb_types::PrincipalText;
 use result_pairs::both;
@@ -78,12 +78,11 @@ impl Login<'_> {
     }
 }
 
-/// The client, with the argument that names it, and the components of its name. Its suite doesn't count.
+/// The client, with the argument that names it. Its suite doesn't count.
 #[derive(Drop)]
 pub(crate) struct User<'a> {
     pub(crate) argument: &'a str,
     pub(crate) client: Client,
-    pub(crate) components: Vec<Vec<u8>>,
 }
 
 /// A service, with the argument that names it, and the components of its name.
@@ -286,10 +285,10 @@ fn user_of<'a>(rt: &HostRuntime, given: &Given<'a>) -> Result<User<'a>, Stop> {
     };
     let PrincipalText { components, realm } = principal_in(rt.alloc(), *argument)?;
     match realm {
-        Some(realm) => user_in(rt.alloc(), *argument, components, &realm),
+        Some(realm) => user_in(rt.alloc(), *argument, &components, &realm),
         None => {
             let realm = default_realm(rt, *argument)?;
-            user_in(rt.alloc(), *argument, components, realm.as_bytes())
+            user_in(rt.alloc(), *argument, &components, realm.as_bytes())
         }
     }
 }
@@ -298,15 +297,11 @@ fn user_of<'a>(rt: &HostRuntime, given: &Given<'a>) -> Result<User<'a>, Stop> {
 fn user_in<'a>(
     alloc: Global,
     argument: &'a str,
-    components: Vec<Vec<u8>>,
+    components: &[Vec<u8>],
     realm: &[u8],
 ) -> Result<User<'a>, Stop> {
-    match Client::new(alloc, realm, &components, CipherSuite::Aes256CtsHmacSha196) {
-        Ok(client) => Ok(User {
-            argument,
-            client,
-            components,
-        }),
+    match Client::new(alloc, realm, components, CipherSuite::Aes256CtsHmacSha196) {
+        Ok(client) => Ok(User { argument, client }),
         Err(AskRefusal::Memory) => Err(Stop::Memory),
         Err(_) => Err(usage(alloc, format_args!("{argument}: expected USER@REALM"))),
     }

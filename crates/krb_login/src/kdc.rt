@@ -1,19 +1,21 @@
 //! The KDC at the other end of standard input and output.
-ghost use Rattle.std.specs.Prelude.{◌≡◌, IfOk, length};
-ghost use Rattle.krb_commands.specs.declared.requests.TheConstants.{WORDS_TAKEN};
+ghost use Rattle.std.specs.Prelude.{None};
 
 use crate::PROGRAM;
 use crate::arguments::Settings;
-use krb_commands::{RandomFile, Stop, WORDS_TAKEN, failed, moment_or_now};
+use crate::reports::{Expected, hint_text, outcome_text};
+use krb_client_exchanges::{HintRefusal, Kdc, Occasion, hint_in_answer};
+use krb_commands::{RandomFile, Stop, failed, moment_or_now};
+use krb_crypto::CipherSuite;
 use krb_frames::{FRAME_LIMIT, ServeFault, read_frame, write_frame};
 use krb_programs::{Streams, say};
 use krb_time::{MICROSECONDS_IN_SECOND, Moment};
-use picky_asn1::date::GeneralizedTime;
+use std::alloc::Global;
 use std::fmt;
 
 /// The streams to and from a KDC, and a file of random octets.
 #[derive(Drop)]
-pub(crate) struct Kdc<'a> {
+pub(crate) struct KdcPipe<'a> {
     rt: &'a HostRuntime,
     streams: Streams,
     words: RandomFile<'a>,
@@ -23,59 +25,80 @@ pub(crate) struct Kdc<'a> {
     lifetime: u64,
     /// Whether it says what it asks and what the KDC answers.
     is_verbose: bool,
+    /// The argument that names the user or the service of the next request.
+    name: &'a str,
+    /// The next request.
+    expected: Expected<'a>,
 }
 
-/// The moment of a request, the end of the lifetime that it asks for, and its random octets.
-#[derive(Clone, Copy)]
-pub(crate) struct Occasion {
-    pub(crate) moment: Moment,
-    pub(crate) till: GeneralizedTime,
-    pub(crate) words: [u8; WORDS_TAKEN],
-}
-
-impl<'a> Kdc<'a> {
-    /// The KDC at standard input and output, with random octets, moments and the lifetime as the settings say.
-    pub(crate) fn open(rt: &'a HostRuntime, settings: &Settings<'a>) -> Result<Kdc<'a>, Stop> {
+impl<'a> KdcPipe<'a> {
+    /// The KDC at standard input and output, with random octets, moments and the lifetime as the settings say. The next request is one of
+    /// this name.
+    pub(crate) fn open(
+        rt: &'a HostRuntime,
+        settings: &Settings<'a>,
+        name: &'a str,
+        expected: Expected<'a>,
+    ) -> Result<KdcPipe<'a>, Stop> {
         let words = RandomFile::open(rt, settings.words)?;
         let streams = Streams::open(rt)?;
-        Ok(Kdc {
+        Ok(KdcPipe {
             rt,
             streams,
             words,
             set_moment: settings.moment,
             lifetime: settings.lifetime,
             is_verbose: settings.is_verbose,
+            name,
+            expected,
         })
     }
 
-    /// The moment and the end of the next request, and the next random octets.
-    pub(crate) fn occasion(&mut self) -> Result<Occasion, Stop>
-        ensures { IfOk result (λ occasion. length occasion.words ≡ WORDS_TAKEN) }
-    {
-        let alloc = self.rt.alloc();
-        let moment = moment_or_now(self.rt, self.set_moment)?;
-        let words = self.words.take_words(alloc, "request")?;
-        let micros = self.lifetime.saturating_mul(MICROSECONDS_IN_SECOND);
-        match Moment::new(moment.micros().saturating_add(micros)) {
-            Some(end) => Ok(Occasion {
-                moment,
-                till: end.second(),
-                words,
-            }),
-            None => Err(failed(alloc, "-l: expected an end before the year 10000")),
+    /// The next request is this one of this name.
+    pub(crate) fn expect(&mut self, name: &'a str, expected: Expected<'a>) {
+        self.name = name;
+        self.expected = expected;
+    }
+
+    // Says a line on standard error. It shows no secret.
+    fn say<D: fmt::Display + Drop>(&self, line: D) {
+        say(self.rt, PROGRAM, line);
+    }
+
+    // Says what was asked and answered, and what the first answer says of the client's key.
+    fn report(&mut self, alloc: Global, answer: &[u8]) -> Result<(), Stop> {
+        let expected = self.expected;
+        let suites = expected.suites_text(alloc)?;
+        let outcome = outcome_text(alloc, answer)?;
+        let title = expected.title();
+        let name = self.name;
+        self.say(format_args!("{title} for {name:?}, etypes {suites}: {outcome}"));
+        match expected {
+            Expected::First(suites) => self.report_hint(alloc, suites, answer),
+            _ => Ok(()),
         }
     }
 
-    /// Says a line on standard error if the user wants to know. It shows no secret.
-    pub(crate) fn say<D: fmt::Display + Drop>(&self, line: D) {
-        if self.is_verbose {
-            say(self.rt, PROGRAM, line);
+    fn report_hint(
+        &mut self,
+        alloc: Global,
+        suites: &[CipherSuite],
+        answer: &[u8],
+    ) -> Result<(), Stop> {
+        match hint_in_answer(alloc, suites, answer) {
+            Ok(answer) => {
+                let text = hint_text(alloc, &answer.hint)?;
+                self.say(text.as_str());
+                self.expected = Expected::Timestamp(answer.hint.suite);
+                Ok(())
+            }
+            Err(HintRefusal::Memory) => Err(Stop::Memory),
+            Err(_) => Ok(()),
         }
     }
 
-    /// The KDC's reply to a request.
-    pub(crate) fn ask(&mut self, request: &[u8]) -> Result<Vec<u8>, Stop> {
-        let alloc = self.rt.alloc();
+    // The KDC's reply to a request.
+    fn reply(&mut self, alloc: Global, request: &[u8]) -> Result<Vec<u8>, Stop> {
         if FRAME_LIMIT < request.len() {
             return Err(failed(alloc, "the request has more than 65536 octets"));
         }
@@ -91,6 +114,34 @@ impl<'a> Kdc<'a> {
             )),
             Err(fault) => Err(stop_of(self.rt, fault)),
         }
+    }
+}
+
+impl<'a> Kdc for KdcPipe<'a> {
+    type Fault = Stop;
+
+    ghost events = { λ _. None };
+
+    fn occasion(&mut self, alloc: Global) -> Result<Occasion, Stop> {
+        let moment = moment_or_now(self.rt, self.set_moment)?;
+        let words = self.words.take_words(alloc, "request")?;
+        let micros = self.lifetime.saturating_mul(MICROSECONDS_IN_SECOND);
+        match Moment::new(moment.micros().saturating_add(micros)) {
+            Some(end) => Ok(Occasion {
+                moment,
+                till: end.second(),
+                words,
+            }),
+            None => Err(failed(alloc, "-l: expected an end before the year 10000")),
+        }
+    }
+
+    fn ask(&mut self, alloc: Global, request: &[u8]) -> Result<Vec<u8>, Stop> {
+        let reply = self.reply(alloc, request)?;
+        if self.is_verbose {
+            self.report(alloc, &reply)?;
+        }
+        Ok(reply)
     }
 }
 

@@ -1,14 +1,18 @@
 //! A login, from its arguments to the cache.
 
-use crate::arguments::{KeyFile, Login, Means, Settings};
+use crate::arguments::{KeyFile, Login, Means, Service, Settings};
 use crate::certified::{Certified, certified_in};
-use crate::exchange::{ask_for_service, authenticate_by_certificate, authenticate_by_key};
-use crate::kdc::Kdc;
+use crate::kdc::KdcPipe;
+use crate::refusals::stop_of;
+use crate::reports::Expected;
 use crate::secret::{Secret, secret_of};
 use krb_client::Credential;
+use krb_client_exchanges::{
+    ExchangeFault, cache_of, log_in_by_certificate, log_in_by_keytab, log_in_by_password,
+    ticket_for,
+};
 use krb_commands::{FileKind, Stop, begin, refused, write_file};
 use krb_credential_caches::CacheWriteFault;
-use krb_login_caches::cache_of;
 use std::alloc::Global;
 
 /// Gets the tickets of a login, and writes the cache. It begins with a file beside the cache, which it takes away again: where none can be
@@ -26,7 +30,7 @@ pub(crate) fn log_in(rt: &HostRuntime, login: &Login<'_>) -> Result<(), Stop> {
         }
         Means::Certificate(files) => {
             let own = certified_in(rt, &files)?;
-            let outcome = log_in_by_certificate(rt, login, &own);
+            let outcome = log_in_certified(rt, login, &own);
             drop(own);
             outcome
         }
@@ -34,22 +38,60 @@ pub(crate) fn log_in(rt: &HostRuntime, login: &Login<'_>) -> Result<(), Stop> {
 }
 
 fn log_in_by_key(rt: &HostRuntime, login: &Login<'_>, secret: &Secret) -> Result<(), Stop> {
-    let mut kdc = Kdc::open(rt, &login.settings)?;
-    let granting = authenticate_by_key(rt.alloc(), &mut kdc, login, secret)?;
+    let suites = secret.suites(login);
+    let user = login.user.argument;
+    let mut kdc = KdcPipe::open(rt, &login.settings, user, Expected::First(suites))?;
+    let granting = granted_by_key(rt.alloc(), &mut kdc, login, secret)?;
     log_in_with(rt, &mut kdc, login, &granting)
 }
 
-fn log_in_by_certificate(rt: &HostRuntime, login: &Login<'_>, own: &Certified) -> Result<(), Stop> {
-    let mut kdc = Kdc::open(rt, &login.settings)?;
-    let granting = authenticate_by_certificate(rt.alloc(), &mut kdc, login, own)?;
+// The ticket-granting ticket by a key that the client shares with the KDC.
+fn granted_by_key(
+    alloc: Global,
+    kdc: &mut KdcPipe<'_>,
+    login: &Login<'_>,
+    secret: &Secret,
+) -> Result<Credential, Stop> {
+    let client = &login.user.client;
+    let granted = match secret {
+        Secret::Password(password) => {
+            log_in_by_password(alloc, kdc, client, login.wanted(), password.as_slice())
+        }
+        Secret::Keytab(keytab, _) => {
+            log_in_by_keytab(alloc, kdc, client, login.wanted(), keytab.as_slice())
+        }
+    };
+    of_exchange(alloc, login, login.user.argument, granted)
+}
+
+fn log_in_certified(rt: &HostRuntime, login: &Login<'_>, own: &Certified) -> Result<(), Stop> {
+    let suites = login.wanted().suites();
+    let user = login.user.argument;
+    let mut kdc = KdcPipe::open(rt, &login.settings, user, Expected::Certificate(suites))?;
+    let client = &login.user.client;
+    let granted = log_in_by_certificate(rt.alloc(), &mut kdc, client, login.wanted(), &own.means());
+    let granting = of_exchange(rt.alloc(), login, user, granted)?;
     log_in_with(rt, &mut kdc, login, &granting)
+}
+
+// What an exchange granted, or why the program stops.
+fn of_exchange(
+    alloc: Global,
+    login: &Login<'_>,
+    name: &str,
+    granted: Result<Credential, ExchangeFault<Stop>>,
+) -> Result<Credential, Stop> {
+    match granted {
+        Ok(credential) => Ok(credential),
+        Err(fault) => Err(stop_of(alloc, login, name, fault)),
+    }
 }
 
 // Gets the service tickets, and writes the cache.
-fn log_in_with(
+fn log_in_with<'a>(
     rt: &HostRuntime,
-    kdc: &mut Kdc<'_>,
-    login: &Login<'_>,
+    kdc: &mut KdcPipe<'a>,
+    login: &'a Login<'_>,
     granting: &Credential,
 ) -> Result<(), Stop> {
     let further = tickets(rt.alloc(), kdc, login, granting)?;
@@ -69,17 +111,32 @@ fn files_read<'a>(settings: &Settings<'a>) -> [&'a str; 4] {
 }
 
 // A ticket for each service, in their order.
-fn tickets(
+fn tickets<'a>(
     alloc: Global,
-    kdc: &mut Kdc<'_>,
-    login: &Login<'_>,
+    kdc: &mut KdcPipe<'a>,
+    login: &'a Login<'_>,
     granting: &Credential,
 ) -> Result<Vec<Credential>, Stop> {
     let mut tickets = Vec::new(alloc);
     for service in &login.services {
-        tickets.push(ask_for_service(alloc, kdc, login, granting, service)?)?;
+        tickets.push(service_ticket(alloc, kdc, login, granting, service)?)?;
     }
     Ok(tickets)
+}
+
+// A ticket for a service.
+fn service_ticket<'a>(
+    alloc: Global,
+    kdc: &mut KdcPipe<'a>,
+    login: &'a Login<'_>,
+    granting: &Credential,
+    service: &'a Service<'_>,
+) -> Result<Credential, Stop> {
+    let wanted = login.wanted();
+    kdc.expect(service.argument, Expected::Ticket(wanted.suites()));
+    let client = &login.user.client;
+    let granted = ticket_for(alloc, kdc, client, wanted, granting, &service.components);
+    of_exchange(alloc, login, service.argument, granted)
 }
 
 // The octets of the cache.

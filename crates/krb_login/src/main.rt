@@ -19,13 +19,12 @@
 //! certificate of the user. It is 2 if the arguments are none, a file or a stream can't be read or written, or memory ran out. One line on
 //! standard error says what was expected, and names an error of the KDC with its code. No line shows a key or a password.
 //!
-//! It is safe, returns, and meets what its calls require. `krb_login_caches` says what cache is made of the tickets.
+//! It is safe, returns, and meets what its calls require. `krb_client_exchanges` says which requests it sends, and what cache is made of the tickets.
 #![tactic(auto)]
 
 mod arguments;
 mod certified;
 mod environment;
-mod exchange;
 mod kdc;
 mod login;
 mod refusals;

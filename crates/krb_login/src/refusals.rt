@@ -2,11 +2,12 @@
 
 use crate::arguments::Login;
 use krb_client::TakeRefusal;
+use krb_client_exchanges::{ExchangeFault, HintRefusal, HintedClientRefusal, LoginRefusal};
 use krb_commands::{Stop, refused};
 use krb_constants::error_codes::{
     KDC_ERR_C_PRINCIPAL_UNKNOWN, KDC_ERR_ETYPE_NOSUPP, KDC_ERR_WRONG_REALM,
 };
-use krb_etype_info::{HintRefusal, HintedClientRefusal, KeyHint};
+use krb_crypto::CipherSuite;
 use krb_settings::suite_name;
 use std::alloc::Global;
 
@@ -16,61 +17,50 @@ const OTHER_SUITES: &str = "; -e SUITE asks for others, as -e des3-cbc-sha1-kd";
 /// What to look at where the realm is unknown.
 const UPPER_CASE: &str = "; hint: realms are mostly written in upper case";
 
-/// The stop of a login whose first answer says nothing of the key that the client takes.
-pub(crate) fn not_hinted(alloc: Global, login: &Login<'_>, refusal: HintRefusal) -> Stop {
-    let advice = match refusal {
-        HintRefusal::Memory => return Stop::Memory,
-        HintRefusal::Refused(code) => advice_for(login, code),
-        // MIT's krb5kdc has no hint where the account has no key of a listed suite.
-        HintRefusal::NoSuite | HintRefusal::NoHint => OTHER_SUITES,
-        _ => "",
-    };
-    refused(
-        alloc,
-        format_args!("{}: {refusal}{advice}", login.user.argument),
-    )
-}
-
-/// The stop of a login by password whose key isn't made as the KDC says.
-pub(crate) fn not_made(
-    alloc: Global,
-    login: &Login<'_>,
-    hint: &KeyHint,
-    refusal: HintedClientRefusal,
-) -> Stop {
-    let user = login.user.argument;
-    match refusal {
-        HintedClientRefusal::Memory => Stop::Memory,
-        HintedClientRefusal::OtherSalt => {
-            let suite = suite_name(hint.suite);
-            refused(
-                alloc,
-                format_args!(
-                    "{user}: {refusal}; -e {suite} takes it, if the account was renamed or the KDC salts in its own way"
-                ),
-            )
-        }
-        _ => refused(alloc, format_args!("{user}: {refusal}")),
-    }
-}
-
-/// The stop of a request whose reply isn't taken.
-pub(crate) fn kdc_refused(
+/// The stop of a login, or of a request for a ticket, that ended without one. `name`: the argument that names the user or the service.
+pub(crate) fn stop_of(
     alloc: Global,
     login: &Login<'_>,
     name: &str,
-    refusal: TakeRefusal,
+    fault: ExchangeFault<Stop>,
 ) -> Stop {
-    let advice = match refusal {
-        TakeRefusal::Memory => return Stop::Memory,
-        TakeRefusal::Refused(code) => advice_for(login, code),
+    match fault {
+        ExchangeFault::Memory => Stop::Memory,
+        ExchangeFault::Kdc(stop) => stop,
+        ExchangeFault::Refused(LoginRefusal::NotMade(suite, HintedClientRefusal::OtherSalt)) => {
+            other_salt(alloc, name, suite)
+        }
+        ExchangeFault::Refused(refusal) => {
+            let advice = advice_for(login, refusal);
+            refused(alloc, format_args!("{name}: {refusal}{advice}"))
+        }
+    }
+}
+
+fn other_salt(alloc: Global, name: &str, suite: CipherSuite) -> Stop {
+    let refusal = HintedClientRefusal::OtherSalt;
+    let suite = suite_name(suite);
+    refused(
+        alloc,
+        format_args!(
+            "{name}: {refusal}; -e {suite} takes it, if the account was renamed or the KDC salts in its own way"
+        ),
+    )
+}
+
+// What to do after a refusal.
+fn advice_for(login: &Login<'_>, refusal: LoginRefusal) -> &'static str {
+    match refusal {
+        // MIT's krb5kdc has no hint where the account has no key of a listed suite.
+        LoginRefusal::NotHinted(HintRefusal::NoSuite | HintRefusal::NoHint) => OTHER_SUITES,
+        LoginRefusal::NotHinted(HintRefusal::Refused(code))
+        | LoginRefusal::NotTaken(TakeRefusal::Refused(code)) => advice_for_code(login, code),
         _ => "",
-    };
-    refused(alloc, format_args!("{name}: {refusal}{advice}"))
+    }
 }
 
 // What to do after an error of this code.
-fn advice_for(login: &Login<'_>, code: u32) -> &'static str {
+fn advice_for_code(login: &Login<'_>, code: u32) -> &'static str {
     let realm = login.user.client.realm().as_bytes();
     match code {
         KDC_ERR_ETYPE_NOSUPP => OTHER_SUITES,

@@ -1,15 +1,49 @@
 //! What `-v` says of requests and answers. No text has a key or a password.
 
 use krb_client::read_error_code;
+use krb_client_exchanges::KeyHint;
 use krb_commands::Printable;
 use krb_constants::error_names::ErrorCode;
 use krb_crypto::CipherSuite;
-use krb_etype_info::KeyHint;
 use krb_settings::suite_name;
 use std::alloc::{AllocError, Global};
 
-/// The names of suites, with blanks between them.
-pub(crate) fn suites_text(alloc: Global, suites: &[CipherSuite]) -> Result<String, AllocError> {
+/// A request, with the suites that it lists.
+#[derive(Clone, Copy)]
+pub(crate) enum Expected<'a> {
+    /// The one without padata, whose answer says of which suite the client's key is.
+    First(&'a [CipherSuite]),
+    /// The one with an encrypted timestamp, in the suite of the client's key.
+    Timestamp(CipherSuite),
+    /// The one by certificate.
+    Certificate(&'a [CipherSuite]),
+    /// The one for a service ticket.
+    Ticket(&'a [CipherSuite]),
+}
+
+impl Expected<'_> {
+    /// What the request is called.
+    pub(crate) fn title(self) -> &'static str {
+        match self {
+            Expected::First(_) => "AS-REQ without padata",
+            Expected::Timestamp(_) => "AS-REQ with an encrypted timestamp",
+            Expected::Certificate(_) => "AS-REQ by certificate",
+            Expected::Ticket(_) => "TGS-REQ",
+        }
+    }
+
+    /// The names of its suites, with blanks between them.
+    pub(crate) fn suites_text(self, alloc: Global) -> Result<String, AllocError> {
+        match self {
+            Expected::First(suites) | Expected::Certificate(suites) | Expected::Ticket(suites) => {
+                suites_text(alloc, suites)
+            }
+            Expected::Timestamp(suite) => suites_text(alloc, &[suite]),
+        }
+    }
+}
+
+fn suites_text(alloc: Global, suites: &[CipherSuite]) -> Result<String, AllocError> {
     let mut text = String::new(alloc);
     let mut blank = "";
     for suite in suites {

@@ -201,6 +201,8 @@ further call part authenticated service_name service body =
     need (reply_key authenticated.suite part.key.0.key_value.0 (subkey_in authenticated.authenticator)) KRB_AP_ERR_BAD_INTEGRITY (λ under.
     -- The ticket has client, authtime and flag pre-authent of the presented ticket; the flag initial isn't set (RFC 4120, section
     -- 3.3.3). Test: `tgs honest`, `tgs ticket flags short`.
+    -- Ignored: the presented ticket's authorization-data, caddr, transited and renew-till: nothing of them is in the new ticket (RFC 4120,
+    -- section 3.3.3). Test: `tgs short options` of `kdc_exchanges.txt`.
     replied (further_grant call part service_name suite body span) under service call.words)))
 
 -- the name has an account
@@ -243,7 +245,7 @@ of_carried call body ap_req =
 -- Not judged: `from`, `rtime`, `addresses`, the body's `cname` and `additional-tickets` (RFC 4120, section 3.3.3). Test:
 -- `tgs from edges`, `tgs body client`, `tgs additional tickets`, `tgs rtime, addresses` of `five_suites.txt`.
 -- Not judged: the ticket's caddr, transited and authorization-data, and the authenticator's seq-number and authorization-data (RFC 4120,
--- sections 5.3 and 5.5.1). No test: the contract alone covers it.
+-- sections 5.3 and 5.5.1). Test: `tgs short options`, `tgs authenticator extras` of `kdc_exchanges.txt`.
 -- Ignored: padata of other types (RFC 4120, section 3.3.2). Test: `tgs padata among others` of `five_suites.txt`.
 -- Ignored: the name type of `sname`; names are compared by their components (RFC 4120, section 6.2). Test: `tgs service type` of
 -- `five_suites.txt`.

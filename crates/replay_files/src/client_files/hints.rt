@@ -8,12 +8,12 @@ mod texts;
 
 use anyhow::{Context, bail};
 use krb_client::{AsAsked, AskRefusal, ByKey, Client, Credential};
-use krb_crypto::CipherSuite;
-use krb_etype_info::{
+use krb_client_exchanges::{
     HintedClientRefusal, KeyHint, USUAL_SUITES, Wanted, as_request_of_suites, client_by_hint,
     first_request, key_hint, key_hint_of_reply, suite_of_reply, taken_of_suites,
     tgs_request_of_suites,
 };
+use krb_crypto::CipherSuite;
 use krb_time::Moment;
 use picky_asn1::date::GeneralizedTime;
 use replay_rows::{Row, Rows, replay};

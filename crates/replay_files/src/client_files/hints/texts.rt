@@ -1,7 +1,7 @@
 //! The texts of rows.
 
 use krb_client::{ByKey, Credential};
-use krb_etype_info::KeyHint;
+use krb_client_exchanges::KeyHint;
 use std::alloc::Global;
 use std::fmt::Debug;
 

@@ -1,0 +1,13 @@
+pub mod Outcomes
+pub mod Salts
+pub mod Found
+pub mod Strengths
+pub mod MethodDataLemmas
+pub mod NamedClients
+pub mod Running
+pub mod Exchanging
+pub mod Told
+pub mod Answering
+pub mod Counts
+pub mod Grantings
+pub mod AnswerStrengths

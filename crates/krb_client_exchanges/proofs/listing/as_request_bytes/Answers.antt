@@ -1,0 +1,4 @@
+use Rattle.krb_client_exchanges.proofs.listing.as_request_bytes.Goals as goal
+
+pub returns : goal.returns
+returns c = rw c.in_ok-request.ensures at c.in_ok-bytes.ensures

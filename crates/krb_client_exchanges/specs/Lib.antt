@@ -1,0 +1,17 @@
+pub mod Refusals
+pub mod Suites
+pub mod FirstRequests
+pub mod ListedRequests
+pub mod Parameters
+pub mod Messages
+pub mod Hints
+pub mod HintedClients
+pub mod Grants
+pub mod Events
+pub mod Courses
+pub mod RequestKinds
+pub mod Taking
+pub mod AnswerHints
+pub mod SharedKeys
+pub mod Logins
+pub mod LoginCaches

@@ -1,5 +1,0 @@
-use Rattle.krb_etype_info.proofs.MethodDataLemmas.{hint_of_account}
-use Rattle.krb_etype_info.proofs.laws.hint_of_method_data.Goals as goal
-
-pub returns : goal.returns
-returns c = hint_of_account

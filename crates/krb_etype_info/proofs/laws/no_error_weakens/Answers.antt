@@ -1,8 +1,0 @@
-use Rattle.krb_etype_info.proofs.Strengths.{least, listed}
-use Rattle.krb_etype_info.proofs.laws.no_error_weakens.Goals as goal
-
-pub returns-clause-listed : goal.returns-clause-listed
-returns-clause-listed c = listed
-
-pub returns-clause-strong : goal.returns-clause-strong
-returns-clause-strong c = λ suites bytes hint given. least suites hint.suite (listed suites bytes hint given)

@@ -1,9 +1,0 @@
-pub mod Refusals
-pub mod Suites
-pub mod FirstRequests
-pub mod ListedRequests
-pub mod Parameters
-pub mod Messages
-pub mod Hints
-pub mod HintedClients
-pub mod Grants

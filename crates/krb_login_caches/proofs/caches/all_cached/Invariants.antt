@@ -1,7 +1,0 @@
-use Rattle.std.proofs.Common.{◌≡◌, ◌∷◌, map, take}
-use Rattle.krb_login_caches.specs.LoginCaches.{cached_credential}
-use Rattle.krb_login_caches.proofs.caches.all_cached.Given as goal
-
--- the credentials so far
-abbrev pub invariant-loop-credential : goal.invariant-loop-credential
-invariant-loop-credential l = l.all.items ≡ map (cached_credential l.client) (l.granting ∷ take l.credential-index l.further)
