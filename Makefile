@@ -26,7 +26,7 @@ messages: kit-there ## read, change and write messages through picky_krb, withou
 certificate: kit-there ## read a certificate, without proof: one minute
 	cd crates/example_certificate && $(TRY) --data certificate.der=data/certificate.der </dev/null
 
-test: kit-there $(if $(CRATE),crate-named,listener imports programs) ## run every test and program without proof, or those of one crate: make test CRATE=test_der
+test: kit-there $(if $(CRATE),crate-named,listener imports programs) ## run every test and program without proof, or those of one crate: make test CRATE=test_encodings
 	RT="$(RT)" tools/test $(CRATE)
 
 listener: ## test krb_listen and krb_connect of bridges/, over stubs: a minute
@@ -38,7 +38,7 @@ imports: ## test examples/mit_accounts, which reads keytabs of MIT's realms: ten
 programs: ## test the start scripts, make install, make run and the manual pages over programs that are stubs: ten seconds
 	python3 -B tools/test_programs.py
 
-check: kit-there crate-named ## prove one crate and what it stands on: make check CRATE=krb_tgs
+check: kit-there crate-named ## prove one crate and what it stands on: make check CRATE=krb_kdc_exchanges
 	cd crates/$(CRATE) && $(RT) check
 
 gate: kit-there ## prove what hasn't passed on this machine, try the wrong bodies, run each test and program
@@ -93,10 +93,10 @@ initiator: ## log in with the example initiator at stock acceptors of MIT and He
 bench: ## time the program: make bench BENCH=as_exchange (a script of bench/)
 	bench/$(BENCH).sh
 
-plant: kit-there crate-named ## list wrong bodies that a crate's contracts let through: make plant CRATE=krb_tgs
+plant: kit-there crate-named ## list wrong bodies that a crate's contracts let through: make plant CRATE=krb_kdc_exchanges
 	cd crates/$(CRATE) && $(RT) plant
 
-fmt: kit-there $(if $(CRATE),crate-named) ## lay out the files of each crate, or of one: make fmt CRATE=krb_tgs
+fmt: kit-there $(if $(CRATE),crate-named) ## lay out the files of each crate, or of one: make fmt CRATE=krb_kdc_exchanges
 	for crate in $(or $(CRATE),$(CRATES)); do (cd crates/$$crate && $(RT) fmt) || exit 1; done
 
 docs: ## check that the documents name what exists, that no number of a standard stands bare, and that written pages, identifiers and records are what their sources say
@@ -115,7 +115,7 @@ budget: kit-there ## the gate in a clean clone, with its minutes crate by crate
 	bench/gate.sh
 
 crate-named:
-	@test -n "$(CRATE)" || { echo "make: name a crate, as in make check CRATE=krb_tgs" >&2; exit 2; }
+	@test -n "$(CRATE)" || { echo "make: name a crate, as in make check CRATE=krb_kdc_exchanges" >&2; exit 2; }
 	@test -d "crates/$(CRATE)/src" || { echo "make: there is no crate $(CRATE): crates.txt lists them" >&2; exit 2; }
 
 kit-there:

@@ -1,5 +1,5 @@
 """Realms in files, written and read by another hand than the kit's programs: constant databases (D. J. Bernstein, 'A structure for constant
-databases') with the records that specs/ of crates/krb_account_files describe.
+databases') with the records that specs/ of crates/krb_realm_files describe.
 
 usage: account_files.py DATABASE NAME..     what the database says of its realm, and of these accounts: components with / between them
 """

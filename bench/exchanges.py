@@ -5,8 +5,8 @@ from program import timed
 
 # Which crates a function belongs to, by how its name begins.
 PARTS = {
-    "sealing": ("aes_cts", "krb_profile", "krb_crypto", "sha1"),
-    "DER": ("picky_asn1", "asn1_", "krb_messages", "krb_types"),
+    "sealing": ("block_ciphers", "encryption_profiles", "krb_crypto", "sha1"),
+    "DER": ("picky_asn1", "asn1_", "krb_messages"),
     "memory": ("std_alloc", "rattle_", "__rattle", "malloc", "_int_", "free", "realloc", "calloc", "unlink_chunk",
                "__mem", "mem"),
 }

@@ -1,5 +1,5 @@
 #!/bin/sh
-# MIT's and Heimdal's klist list credential caches that the crate krb_credential_caches writes: the credentials of each stock cache in
+# MIT's and Heimdal's klist list credential caches that the crate krb_file_formats writes: the credentials of each stock cache in
 # crates/replay_files/data in reverse order, in a cache without header tags. Each klist must say the same of them as of the stock
 # cache, but for the order. It must refuse the same cache cut short. Prints what each gave; the status is 1 where one differs from
 # what it should, and 2 where a tool is missing. All files are in a temporary folder.

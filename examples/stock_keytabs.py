@@ -1,7 +1,7 @@
 #!/usr/bin/env python3
 """MIT's klist and kinit at keytabs with an odd entry between host/a@R and host/b@R, against what krb_keytab's definitions say.
 
-klist should list the entries that `keytab_at` (crates/krb_keytabs/specs/Reading.antt) reads, up to that at which `stop_of` gives a part
+klist should list the entries that `keytab_at` (crates/krb_file_formats/specs/Reading.antt) reads, up to that at which `stop_of` gives a part
 (crates/krb_keytab/specs/Mit.antt), and kinit find a key of host/b@R where it is listed. Both definitions are written anew here. Where a row
 begins with `refused:`, `keytab_at` refuses the keytab, and klist's list is only shown. The status is 1 if a row is wrong or klist missing.
 """

@@ -5,11 +5,13 @@
 # First the tests of layouts run in 4 MiB of address space: counts of 2^32 - 1 that a message tells ask for no memory.
 set -e
 top=$(cd "$(dirname "$0")/.." && pwd)
-tests=$top/crates/test_layouts/out/test_layouts_tests
+tests=$top/crates/test_encodings/out/test_encodings_tests
 if [ ! -x "$tests" ]; then
-    (cd "$top/crates/test_layouts" && rt test >/dev/null)
+    (cd "$top/crates/test_encodings" && rt test >/dev/null)
 fi
-for name in $("$tests" --list | sed -n 's/: test$//p'); do
+names=$("$tests" --list | sed -n '/layouts::/s/: test$//p')
+[ -n "$names" ] || { echo "no test of layouts is there"; exit 1; }
+for name in $names; do
     (ulimit -v 4096 && "$tests" "$name" >/dev/null) || { echo "$name fails in 4 MiB of address space"; exit 1; }
 done
 "$top/krb_realm" </dev/null

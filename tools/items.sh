@@ -4,7 +4,7 @@
 # module that one crate has.
 cd "$(dirname "$0")/.." || exit 1
 front=crates/picky_krb/src/lib.rt
-all="$(sed -n 's/^picky_krb: //p' crates.txt) negoex_types"
+all="$(sed -n 's/^picky_krb: //p' crates.txt)"
 others=$(echo "$all" | tr ' ' '\n' | grep -vx krb_crypto)
 
 # One line for each item: its path, and the crate or the reason.
@@ -18,9 +18,9 @@ places() {
         home=
         case $path in
             crypto::diffie_hellman::*) crates=krb_crypto ;;
-            crypto::des::*) crates='krb_crypto krb_des3 des3_cbc' ;;
-            crypto::aes::*) crates='krb_crypto krb_aes aes_cts' ;;
-            crypto::*) crates='krb_crypto krb_profile aes_cts' ;;
+            crypto::des::*) crates='krb_crypto encryption_profiles block_ciphers' ;;
+            crypto::aes::*) crates='krb_crypto encryption_profiles block_ciphers' ;;
+            crypto::*) crates='krb_crypto encryption_profiles block_ciphers' ;;
             *) crates=$others ;;
         esac
         for crate in $crates; do

@@ -115,9 +115,9 @@ class Starts(Copy):
 
     def test_a_source_that_is_newer(self):
         self.build_stubs()
-        os.utime(self.own_source("krb_credential_caches"), (time.time() + 9,) * 2)
+        os.utime(self.own_source("krb_client"), (time.time() + 9,) * 2)
         _, said = self.run_in(f"{self.top}/krb_login", "x", status=2)
-        self.assertIn("is older than crates/krb_credential_caches/src/lib.rt", said[0])
+        self.assertIn("is older than crates/krb_client/src/lib.rt", said[0])
         self.run_in(f"{self.top}/krb_accounts", "list")  # it doesn't stand on that crate
 
 
@@ -287,7 +287,7 @@ class Install(Copy):
         self.assertEqual((wrote, said), ([], []))
 
     def test_what_make_test_says_before_it_starts(self):
-        for words, runs in ("krb_tgs", r"\d+ runs"), ("test_der", "1 run"):
+        for words, runs in ("krb_kdc_exchanges", r"\d+ runs"), ("test_encodings", "1 run"):
             wrote, _ = self.make("test", f"CRATE={words}", status=2)  # the stub runs no tests
             how = rf"^test: {runs}, \d at once, some \d+ processor minutes: 0 as measured here, \d+ by their lines of source$"
             self.assertRegex(wrote[0], how)

@@ -1,11 +1,10 @@
 //! Single calls, and the bytes that they make. faults/refused_growths.sh refuses each growth of such a row in turn.
 
 use anyhow::{Context, bail};
-use gss_message_tokens::{MicToken, WrapToken};
+use gss_contexts::{MicToken, WrapToken};
 use krb_crypto::{Cipher, CipherSuite};
-use negoex_messages::{Extension, MessageType, NegoexMessage};
-use negoex_structs::Nego;
-use pac_layouts::Pac;
+use microsoft_messages::Pac;
+use negoex_messages::{Extension, MessageType, Nego, NegoexMessage};
 use picky_asn1_x509::{AlgorithmIdentifier, deviations, from_bytes, to_vec};
 use std::alloc::Global;
 use uuid::Uuid;

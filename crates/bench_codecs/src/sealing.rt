@@ -1,9 +1,8 @@
 //! Keys of passwords, and sealing and opening of a megabyte.
 
-use aes_cts::{AesSize, decrypt_aes_cts, encrypt_aes_cts};
 use anyhow::bail;
-use des3_cbc::{decrypt_des, encrypt_des};
-use krb_profile::{pbkdf2_hmac, pbkdf2_hmac_sha1};
+use block_ciphers::{AesSize, decrypt_aes_cts, decrypt_des, encrypt_aes_cts, encrypt_des};
+use encryption_profiles::{pbkdf2_hmac, pbkdf2_hmac_sha1};
 use sha2::{Sha256, Sha384};
 use std::alloc::Global;
 

@@ -4,3 +4,6 @@ pub mod Room
 pub mod Watched
 pub mod Whole
 pub mod Peeking
+pub mod Numbers
+pub mod Parts
+pub mod Stops

@@ -2,8 +2,8 @@
 use Rattle.std.proofs.Common.{◌≡◌, ◌≢◌, ℕ, ◌+◌, ◌-◌, ◌≤◌, List, length, length-take, take, drop, Ok, Bool, true, false, not, nat_eq, refl, sym, ap, ◌∙◌, arith}
 use Rattle.std.proofs.lemmas.List.{drop-drop, drop-take, take-append-drop, take-take, take_rest}
 use Rattle.std.specs.Cmp.Lexicographic.{pointwise}
-use Rattle.byte_layouts.specs.Numbers.{le32_at}
-use Rattle.byte_layouts.proofs.NumberLaws.{le32_at-append}
+use Rattle.byte_streams.specs.Numbers.{le32_at}
+use Rattle.byte_streams.proofs.NumberLaws.{le32_at-append}
 use Rattle.cdb.specs.declared.format.TheConstants.{PAIR_SIZE}
 use Rattle.cdb.specs.declared.tables.SlotOutcome.TheVariants as outcome
 use Rattle.cdb.specs.Reading.{IsFilled}

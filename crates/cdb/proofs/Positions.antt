@@ -2,7 +2,7 @@
 use Rattle.std.proofs.lemmas.Grind.{common_steps}
 use Rattle.std.proofs.Common.{◌≡◌, ℕ, ◌+◌, ◌<◌, ◌≤◌, List, ◌++◌, length, length-append, length-take, take, drop, Result, Ok, Err, nat_eq, refl, sym, ap, ◌∙◌, arith, le-ltb, lt-ltb}
 use Rattle.std.specs.Cmp.Lexicographic.{pointwise}
-use Rattle.byte_layouts.specs.Numbers.{le32_at}
+use Rattle.byte_streams.specs.Numbers.{le32_at}
 use Rattle.cdb.specs.declared.format.TheConstants.{PAIR_SIZE}
 use Rattle.std.specs.declared.io.ErrorKind.{ErrorKind}
 use Rattle.cdb.specs.declared.fault.Fault.{Fault}

@@ -2,7 +2,7 @@
 use Rattle.std.specs.Prelude.{◌≡◌, ℕ, zero, suc, ◌+◌, ◌*◌, ◌/◌, ◌%◌, ◌==◌, nat_lt, nat_eq, Bool, not, List, length, take, drop, Option, None, Some, Result, Ok, Err, if◌then◌else◌}
 use Rattle.std.specs.Cmp.Lexicographic.{pointwise}
 use Rattle.std.specs.declared.io.ErrorKind.{ErrorKind}
-use Rattle.byte_layouts.specs.Numbers.{le32_at}
+use Rattle.byte_streams.specs.Numbers.{le32_at}
 use Rattle.cdb.specs.declared.fault.Fault.{Fault}
 use Rattle.cdb.specs.declared.fault.Fault.TheVariants.{Damaged, Long}
 use Rattle.cdb.specs.declared.format.TheConstants.{TABLES, PAIR_SIZE}

@@ -7,7 +7,7 @@ use crate::fault::Fault;
 use crate::file::ReadAt;
 use crate::format::{KEY_LIMIT, PAIR_SIZE, TABLES};
 use crate::hash::hash_of;
-use byte_layouts::u32_le;
+use byte_streams::u32_le;
 
 /// How many octets of a record's front are read at once: its two lengths and its key.
 const FRONT_LIMIT: usize = PAIR_SIZE as usize + KEY_LIMIT;

@@ -7,7 +7,7 @@ ghost use Rattle.cdb.specs.declared.writing.WriteFault.TheVariants.{Memory};
 use crate::format::{HEADER_SIZE, PAIR_SIZE, TABLES};
 use crate::hash::hash_of;
 use crate::records::{Record, answers_as};
-use byte_layouts::u32_le_bytes;
+use byte_streams::u32_le_bytes;
 use std::alloc::{AllocError, AllocFailed, Global};
 use thiserror::Error;
 

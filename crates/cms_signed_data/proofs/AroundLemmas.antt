@@ -1,12 +1,12 @@
 -- Spellings of the parts, put together, spell the whole; and the certificate is there.
 use Rattle.std.proofs.Common.{◌≡◌, ℕ, ◌+◌, true, List, [], ◌∷◌, ◌++◌, refl, ap, ◌∙◌, subst, arith}
 use Rattle.asn1_der.specs.Length.{element}
-use Rattle.asn1_elements.specs.Raw.{Raw, has_low_number, raw_tree}
+use Rattle.picky_asn1_der.specs.Raw.{Raw, has_low_number, raw_tree}
 use Rattle.asn1_der.specs.Tree.{der}
 use Rattle.asn1_der.proofs.Leaf.{der-leaf}
-use Rattle.asn1_elements.specs.PathLaws.{IsElement, AreSome, LeadsTo, LeadsIn, in_element, some_more, at_front, behind_front, go_on, part_there, held_at, second_at}
+use Rattle.picky_asn1_der.specs.PathLaws.{IsElement, AreSome, LeadsTo, LeadsIn, in_element, some_more, at_front, behind_front, go_on, part_there, held_at, second_at}
 use Rattle.x509_certificates.specs.declared.certificate.Certificate.{Certificate}
-use Rattle.key_functions.specs.declared.functions.Signed.{Signed}
+use Rattle.x509_keys.specs.declared.functions.Signed.{Signed}
 use Rattle.cms_signed_data.specs.PartSpellings.{PartSpellings}
 use Rattle.cms_signed_data.specs.Parts.{certificate_place, AreDigests, AreCertificates, AreSigners, IsSignedData, IsTagged, digests_are, certificates_are, signers_are, tagged_are, signed_are}
 use Rattle.cms_signed_data.specs.SignedRows.{signer_row, signed_row, content_row}

@@ -3,8 +3,8 @@ use Rattle.std.proofs.Common.{◌≡◌, ℕ, Bool, true, false, List, Result, O
 use Rattle.std.specs.Prelude.{IsErrAnd, IsTrue}
 use Rattle.asn1_der.specs.Length.{element}
 use Rattle.asn1_der.proofs.Elements.{element-content}
-use Rattle.asn1_elements.specs.Parts.{IsPart}
-use Rattle.asn1_elements.specs.PartLaws.{part-one}
+use Rattle.picky_asn1_der.specs.Parts.{IsPart}
+use Rattle.picky_asn1_der.specs.PartLaws.{part-one}
 use Rattle.x509_codec.specs.Answers.{ReadsSpelling}
 use Rattle.x509_spelling.specs.declared.fault.X509Fault.{X509Fault}
 use Rattle.x509_spelling.specs.declared.fault.X509Fault.TheVariants as x509

@@ -7,10 +7,10 @@ use Rattle.asn1_der.specs.Tagged.{tagged_tree, leaf_as}
 use Rattle.picky_asn1.specs.contracts.encoding.oid.ObjectIdentifierAsn1Leaf.TheImpl as oid_leaf
 use Rattle.picky_asn1.specs.declared.wrapper.ObjectIdentifierAsn1.{ObjectIdentifierAsn1}
 use Rattle.x509_oids.specs.Identifiers as oids
-use Rattle.x509_parts.specs.RawParameters.{null}
-use Rattle.x509_parts.specs.contracts.raw_algorithm_identifier.RawAlgorithmIdentifierSerialize.TheImpl as raw_impl
-use Rattle.x509_parts.specs.contracts.raw_algorithm_identifier.RawAlgorithmIdentifierSpelled.TheImpl as raw_spelled
-use Rattle.x509_parts.specs.declared.raw_algorithm_identifier.RawAlgorithmIdentifier.{RawAlgorithmIdentifier}
+use Rattle.x509_fields.specs.RawParameters.{null}
+use Rattle.x509_fields.specs.contracts.raw_algorithm_identifier.RawAlgorithmIdentifierSerialize.TheImpl as raw_impl
+use Rattle.x509_fields.specs.contracts.raw_algorithm_identifier.RawAlgorithmIdentifierSpelled.TheImpl as raw_spelled
+use Rattle.x509_fields.specs.declared.raw_algorithm_identifier.RawAlgorithmIdentifier.{RawAlgorithmIdentifier}
 use Rattle.x509_spelling.specs.Spellings.{IsExact}
 use Rattle.cms_signed_data.specs.contracts.encapsulated_content_info.EncapsulatedContentInfoTagged.TheImpl as encapsulated_impl
 use Rattle.cms_signed_data.specs.declared.encapsulated_content_info.EncapsulatedContentInfo.{EncapsulatedContentInfo}
@@ -22,10 +22,10 @@ use Rattle.x509_spelling.specs.declared.fault.X509Fault.TheVariants as x509
 use Rattle.x509_certificates.specs.declared.certificate.Certificate.{Certificate}
 use Rattle.cms_signed_data.specs.Faults.{fault_of}
 use Rattle.cms_signed_data.specs.Around.{IsInfoAround}
-use Rattle.cms_signed_attributes.specs.Covered.{as_set}
+use Rattle.x509_codec.specs.Covered.{as_set}
 use Rattle.cms_signed_data.specs.SignedParts.{attributes_tree}
 use Rattle.cms_signed_data.specs.Written.{sha256_algorithm, encapsulated_of, attributes_of, signed_bytes, id_of, id_tree, signer_of, IsWritten, IsUnsigned, IsNoCertificate}
-use Rattle.key_functions.specs.declared.functions.Signed.{Signed}
+use Rattle.x509_keys.specs.declared.functions.Signed.{Signed}
 use Rattle.cms_signed_data.specs.contracts.signer_info.SignerInfoSpelled.TheImpl as signer_info
 use Rattle.cms_signed_data.specs.declared.signed_attributes.SignedAttributes.{SignedAttributes}
 use Rattle.cms_signed_data.specs.declared.signer_info.IssuerAndSerialNumber.{IssuerAndSerialNumber}

@@ -1,7 +1,7 @@
 -- Signed data around a certificate's bytes: no more deviates in the whole than in the certificate, which is there unchanged.
 use Rattle.std.specs.Prelude.{ℕ, List, [], ◌∷◌}
-use Rattle.asn1_elements.specs.Parts.{IsPart}
-use Rattle.asn1_elements.specs.PathLaws.{LeadsTo}
+use Rattle.picky_asn1_der.specs.Parts.{IsPart}
+use Rattle.picky_asn1_der.specs.PathLaws.{LeadsTo}
 use Rattle.x509_certificates.specs.declared.certificate.Certificate.{Certificate}
 use Rattle.cms_signed_data.specs.contracts.content_info.ContentInfoSpelled.TheImpl as content_info
 use Rattle.cms_signed_data.specs.contracts.signed_data.SignedDataSpelled.TheImpl as signed_data

@@ -1,6 +1,6 @@
 -- Slices that are parts of signed data.
 use Rattle.std.specs.Prelude.{◌≡◌, ℕ, List}
-use Rattle.asn1_elements.specs.Parts.{IsPart}
+use Rattle.picky_asn1_der.specs.Parts.{IsPart}
 use Rattle.cms_signed_data.specs.Parts.{certificate_place, attributes_place}
 use Rattle.cms_signed_data.specs.declared.content_info.ContentInfo.{ContentInfo}
 use Rattle.cms_signed_data.specs.declared.slices.Slices.{Slices}

@@ -3,11 +3,11 @@ use Rattle.std.proofs.Common.{◌≡◌, ℕ, Bool, List, [], ◌∷◌, ◌++�
 use Rattle.asn1_der.specs.Length.{element}
 use Rattle.asn1_der.specs.Tree.{Tree, primitive, constructed, wrapped, more, none, leaf, der, IsWhole}
 use Rattle.asn1_der.proofs.Leaf.{leaf-whole, der-leaf}
-use Rattle.asn1_elements.specs.PathLaws.{IsElement, LeadsTo, go_on, alone_at, second_at}
+use Rattle.picky_asn1_der.specs.PathLaws.{IsElement, LeadsTo, go_on, alone_at, second_at}
 use Rattle.picky_asn1.specs.declared.wrapper.ObjectIdentifierAsn1.{ObjectIdentifierAsn1}
 use Rattle.x509_algorithms.specs.declared.algorithm_identifier.AlgorithmIdentifier.{AlgorithmIdentifier}
 use Rattle.x509_certificates.specs.declared.certificate.Certificate.{Certificate}
-use Rattle.x509_parts.specs.declared.raw_algorithm_identifier.RawAlgorithmIdentifier.{RawAlgorithmIdentifier}
+use Rattle.x509_fields.specs.declared.raw_algorithm_identifier.RawAlgorithmIdentifier.{RawAlgorithmIdentifier}
 use Rattle.cms_signed_data.specs.declared.encapsulated_content_info.EncapsulatedContentInfo.{EncapsulatedContentInfo}
 use Rattle.cms_signed_data.specs.declared.signed_attributes.SignedAttributes.{SignedAttributes}
 use Rattle.cms_signed_data.specs.declared.signer_info.IssuerAndSerialNumber.{IssuerAndSerialNumber}

@@ -2,11 +2,11 @@
 use Rattle.std.proofs.Common.{ℕ, suc, List, [], ◌∷◌, refl, subst}
 use Rattle.std.specs.Prelude.{⊤}
 use Rattle.asn1_der.specs.Length.{element}
-use Rattle.asn1_elements.specs.Parts.{IsPart}
-use Rattle.asn1_elements.specs.PathLaws.{AreSome, LeadsTo, LeadsIn, in_element, go_on, part_there}
+use Rattle.picky_asn1_der.specs.Parts.{IsPart}
+use Rattle.picky_asn1_der.specs.PathLaws.{AreSome, LeadsTo, LeadsIn, in_element, go_on, part_there}
 use Rattle.x509_certificates.specs.declared.certificate.Certificate.{Certificate}
 use Rattle.x509_spelling.specs.declared.enclosed.Explicit.{Explicit}
-use Rattle.x509_parts.specs.declared.raw_algorithm_identifier.RawAlgorithmIdentifier.{RawAlgorithmIdentifier}
+use Rattle.x509_fields.specs.declared.raw_algorithm_identifier.RawAlgorithmIdentifier.{RawAlgorithmIdentifier}
 use Rattle.x509_spelling.specs.Spellings.{Holds}
 use Rattle.cms_signed_data.specs.declared.content_info.ContentInfo.{ContentInfo}
 use Rattle.cms_signed_data.specs.declared.set_of_one.SetOfOne.{SetOfOne}

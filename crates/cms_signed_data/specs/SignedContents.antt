@@ -1,6 +1,6 @@
 -- Signed content, and what is borrowed of it (RFC 5652, section 5).
 use Rattle.std.specs.Prelude.{◌≡◌, ◌↔◌, ◌⊎◌, ℕ, List, Result, Ok, Err, IsTrue}
-use Rattle.asn1_elements.specs.Parts.{IsPart}
+use Rattle.picky_asn1_der.specs.Parts.{IsPart}
 use Rattle.cms_signed_data.specs.contracts.content_info.ContentInfoSpelled.TheImpl as content_info
 use Rattle.cms_signed_data.specs.declared.content_info.ContentInfo.{ContentInfo}
 use Rattle.cms_signed_data.specs.Form.{has_form}

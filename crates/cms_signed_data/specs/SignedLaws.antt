@@ -3,9 +3,9 @@ use Rattle.std.proofs.Common.{◌≡◌, ℕ, List, Result, Ok, Err, refl, ◌�
 use Rattle.std.specs.Prelude.{◌⊎◌}
 use Rattle.asn1_der.specs.Length.{element}
 use Rattle.asn1_der.specs.Tree.{der}
-use Rattle.asn1_elements.specs.Parts.{IsPart}
-use Rattle.asn1_elements.specs.PartLaws.{part-one}
-use Rattle.asn1_elements.specs.PathLaws.{part_there}
+use Rattle.picky_asn1_der.specs.Parts.{IsPart}
+use Rattle.picky_asn1_der.specs.PartLaws.{part-one}
+use Rattle.picky_asn1_der.specs.PathLaws.{part_there}
 use Rattle.x509_certificates.specs.contracts.certificate.CertificateSpelled.TheImpl as certificate
 use Rattle.cms_signed_data.specs.contracts.content_info.ContentInfoSpelled.TheImpl as content_info
 use Rattle.cms_signed_data.specs.Parts.{content_place, certificate_place, attributes_place, digest_place, signature_place, parts_held}

@@ -2,7 +2,7 @@
 use Rattle.std.proofs.Common.{◌≡◌, ℕ, ◌+◌, List, [], ◌∷◌, ◌++◌, refl, sym, ap, ◌∙◌, subst, arith}
 use Rattle.std.specs.Prelude.{⊤}
 use Rattle.asn1_der.specs.Length.{element}
-use Rattle.asn1_elements.specs.PathLaws.{AreSome, LeadsTo, in_element}
+use Rattle.picky_asn1_der.specs.PathLaws.{AreSome, LeadsTo, in_element}
 use Rattle.x509_spelling.specs.Spellings.{Holds}
 use Rattle.cms_signed_data.specs.SpelledElements.{SpellsElements, Ends, Row, ended, row_some, row_front, row_behind}
 use Rattle.asn1_der.specs.Octets.{sequence_octet}

@@ -4,8 +4,8 @@ use Rattle.std.specs.Prelude.{⊤, IsTrue}
 use Rattle.asn1_der.specs.Tree.{Tree}
 use Rattle.asn1_der.specs.Firsts.{Firsts}
 use Rattle.asn1_der.proofs.Elements.{element-split}
-use Rattle.asn1_elements.specs.Raw.{has_low_number}
-use Rattle.asn1_elements.specs.PathLaws.{IsElement, AreSome, LeadsTo, LeadsIn, in_element, some_more, at_front, behind_front, at_alone, go_on}
+use Rattle.picky_asn1_der.specs.Raw.{has_low_number}
+use Rattle.picky_asn1_der.specs.PathLaws.{IsElement, AreSome, LeadsTo, LeadsIn, in_element, some_more, at_front, behind_front, at_alone, go_on}
 use Rattle.x509_spelling.specs.Spellings.{has_low_tag, Leads, IsEnd, Joins, Holds}
 use Rattle.x509_spelling.specs.Laws.{SpellingLaws}
 use Rattle.asn1_der.specs.Octets.{sequence_octet}

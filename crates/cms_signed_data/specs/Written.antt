@@ -3,13 +3,13 @@ use Rattle.std.specs.Prelude.{◌≡◌, ℕ, List, Option, None, Some}
 use Rattle.sha2.specs.Sha256.{sha256}
 use Rattle.asn1_der.specs.Tree.{Tree, der}
 use Rattle.asn1_der.specs.Tagged.{tagged_tree}
-use Rattle.asn1_elements.specs.Parts.{IsPart}
+use Rattle.picky_asn1_der.specs.Parts.{IsPart}
 use Rattle.x509_certificates.specs.contracts.certificate.CertificateSpelled.TheImpl as certificate
 use Rattle.x509_certificates.specs.declared.certificate.Certificate.{Certificate}
 use Rattle.x509_oids.specs.Identifiers as oids
-use Rattle.x509_parts.specs.RawParameters.{null}
-use Rattle.x509_parts.specs.declared.raw_algorithm_identifier.RawAlgorithmIdentifier.{RawAlgorithmIdentifier}
-use Rattle.key_functions.specs.declared.functions.Signed.{Signed}
+use Rattle.x509_fields.specs.RawParameters.{null}
+use Rattle.x509_fields.specs.declared.raw_algorithm_identifier.RawAlgorithmIdentifier.{RawAlgorithmIdentifier}
+use Rattle.x509_keys.specs.declared.functions.Signed.{Signed}
 use Rattle.cms_signed_data.specs.contracts.content_info.ContentInfoSpelled.TheImpl as content_info
 use Rattle.cms_signed_data.specs.contracts.signer_info.IssuerAndSerialNumberTagged.TheImpl as id_impl
 use Rattle.cms_signed_data.specs.declared.content_info.ContentInfo.{ContentInfo}
@@ -19,7 +19,7 @@ use Rattle.cms_signed_data.specs.declared.signed_data.SignedData.{SignedData}
 use Rattle.cms_signed_data.specs.declared.signer_info.IssuerAndSerialNumber.{IssuerAndSerialNumber}
 use Rattle.cms_signed_data.specs.declared.signer_info.SignerInfo.{SignerInfo}
 use Rattle.cms_signed_data.specs.Parts.{certificate_place}
-use Rattle.cms_signed_attributes.specs.Covered.{as_set}
+use Rattle.x509_codec.specs.Covered.{as_set}
 use Rattle.cms_signed_data.specs.SignedParts.{attributes_tree}
 use Rattle.asn1_der.specs.Octets.{sequence_octet}
 

@@ -5,9 +5,9 @@ use Rattle.std.specs.Bool.{nat_eq}
 use Rattle.std.specs.Cmp.Lexicographic.{pointwise}
 use Rattle.asn1_leaves.specs.ObjectIdentifier.{oid_content, subidentifier}
 use Rattle.asn1_der.specs.Tree.{der}
-use Rattle.asn1_elements.specs.Parts.{IsPart}
-use Rattle.asn1_elements.specs.PathLaws.{part_there}
-use Rattle.key_functions.specs.declared.functions.Signed.{Signed}
+use Rattle.picky_asn1_der.specs.Parts.{IsPart}
+use Rattle.picky_asn1_der.specs.PathLaws.{part_there}
+use Rattle.x509_keys.specs.declared.functions.Signed.{Signed}
 use Rattle.cms_signed_data.specs.Form.{has_form, is_signed, is_signer, is_sha256, are_attributes}
 use Rattle.cms_signed_data.specs.Parts.{attributes_place, parts_held}
 use Rattle.cms_signed_data.specs.declared.fault.SignedFault.{SignedFault}

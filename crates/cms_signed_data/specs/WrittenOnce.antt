@@ -1,12 +1,12 @@
 -- A party writes at most one SignedData of a content with a certificate's bytes.
 use Rattle.std.proofs.Common.{◌≡◌, ℕ, List, [], ◌∷◌, Option, None, Some, refl, sym, ap, ◌∙◌, subst}
 use Rattle.asn1_der.specs.Length.{element}
-use Rattle.asn1_elements.specs.Parts.{IsPart}
-use Rattle.asn1_elements.specs.PartLaws.{part-one}
-use Rattle.asn1_elements.specs.PathLaws.{LeadsTo, go_on, held_at, part_there}
+use Rattle.picky_asn1_der.specs.Parts.{IsPart}
+use Rattle.picky_asn1_der.specs.PartLaws.{part-one}
+use Rattle.picky_asn1_der.specs.PathLaws.{LeadsTo, go_on, held_at, part_there}
 use Rattle.x509_certificates.specs.contracts.certificate.CertificateSpelled.TheImpl as certificate
-use Rattle.x509_parts.specs.contracts.raw_algorithm_identifier.RawAlgorithmIdentifierSpelled.TheImpl as raw_spelled
-use Rattle.key_functions.specs.declared.functions.Signed.{Signed}
+use Rattle.x509_fields.specs.contracts.raw_algorithm_identifier.RawAlgorithmIdentifierSpelled.TheImpl as raw_spelled
+use Rattle.x509_keys.specs.declared.functions.Signed.{Signed}
 use Rattle.cms_signed_data.specs.PartSpellings.{PartSpellings}
 use Rattle.cms_signed_data.specs.Parts.{AreCertificates, AreDigests, AreSigners, IsContentInfo, IsSignedData, IsTagged, certificate_place, certificates_are, digests_are, signed_are, signers_are, tagged_are}
 use Rattle.cms_signed_data.specs.SignedRows.{content_row, signed_row}
@@ -16,7 +16,7 @@ use Rattle.cms_signed_data.specs.contracts.signer_info.SignerInfoSpelled.TheImpl
 use Rattle.cms_signed_data.specs.declared.content_info.ContentInfo.{ContentInfo}
 use Rattle.cms_signed_data.specs.declared.set_of_one.SetOfOne.{SetOfOne}
 use Rattle.cms_signed_data.specs.declared.signer_info.SignerInfo.{SignerInfo}
-use Rattle.x509_parts.specs.declared.raw_algorithm_identifier.RawAlgorithmIdentifier.{RawAlgorithmIdentifier}
+use Rattle.x509_fields.specs.declared.raw_algorithm_identifier.RawAlgorithmIdentifier.{RawAlgorithmIdentifier}
 use Rattle.cms_signed_data.specs.Written.{IsUnsigned, IsWritten, info_of}
 use Rattle.cms_signed_data.specs.SignedRowLaws.{HasOneStrict, held_strict, fourth_leads, five_same, second_leads, two_same, none_before, whole_count}
 use Rattle.asn1_der.specs.Octets.{context_0_octet}

@@ -3,7 +3,7 @@ ghost use Rattle.std.specs.Prelude.{◌≡◌, ℕ, List, true, IfOk};
 ghost use Rattle.std.specs.List.{flat_map};
 ghost use Rattle.asn1_der.specs.Length.{element};
 ghost use Rattle.asn1_der.specs.Tree.{IsWhole, der};
-ghost use Rattle.asn1_elements.specs.Raw.{has_low_number};
+ghost use Rattle.picky_asn1_der.specs.Raw.{has_low_number};
 ghost use Rattle.asn1_der.specs.Octets.{sequence_octet};
 
 use asn1_der::octets::SEQUENCE;

@@ -3,7 +3,7 @@ ghost use Rattle.std.specs.Prelude.{◌≡◌, Bool, List};
 ghost use Rattle.std.specs.Bool.{nat_eq};
 ghost use Rattle.std.specs.Cmp.Lexicographic.{pointwise};
 ghost use Rattle.asn1_leaves.specs.ObjectIdentifier.{oid_content};
-ghost use Rattle.x509_parts.specs.RawParameters.{is_null};
+ghost use Rattle.x509_fields.specs.RawParameters.{is_null};
 ghost use Rattle.cms_signed_data.specs.Form.{signed_data_id, content_type_id, message_digest_id, sha256_id, is_sha256, are_attributes, is_signer, is_signed, has_form};
 
 use crate::content_info::ContentInfo;
@@ -14,7 +14,7 @@ use crate::signer_info::{IssuerAndSerialNumber, SignerInfo};
 use picky_asn1::wrapper::{ObjectIdentifierAsn1, OctetStringAsn1};
 use x509_algorithms::AlgorithmIdentifier;
 use x509_certificates::Certificate;
-use x509_parts::RawAlgorithmIdentifier;
+use x509_fields::RawAlgorithmIdentifier;
 use x509_spelling::Spelled;
 
 /// Values that may be of a form. `spellings` says how the parts of signed data are spelled in them.

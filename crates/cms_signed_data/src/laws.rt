@@ -2,8 +2,8 @@
 ghost use Rattle.std.specs.Prelude.{◌≡◌, ◌⊎◌, ℕ, List, Option, Result, Ok, Err};
 ghost use Rattle.asn1_der.specs.Length.{element};
 ghost use Rattle.asn1_der.specs.Tree.{der};
-ghost use Rattle.asn1_elements.specs.Parts.{IsPart};
-ghost use Rattle.key_functions.specs.declared.functions.Signed.{Signed};
+ghost use Rattle.picky_asn1_der.specs.Parts.{IsPart};
+ghost use Rattle.x509_keys.specs.declared.functions.Signed.{Signed};
 ghost use Rattle.cms_signed_data.specs.Parts.{content_place, digest_place, signature_place};
 ghost use Rattle.cms_signed_data.specs.SignedContents.{IsSignedContent, Reads};
 ghost use Rattle.cms_signed_data.specs.WrittenLaws.{written_parts};

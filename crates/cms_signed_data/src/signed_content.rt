@@ -1,7 +1,7 @@
 //! Signed content of one form: what is borrowed of its bytes, and how it is written.
 ghost use Rattle.std.specs.Prelude.{◌≡◌, ◌⊎◌, ℕ, IsTrue, MatchOption, MatchResult};
 ghost use Rattle.cms_signed_data.specs.SignedContents.{IsSignedContent, Reads};
-ghost use Rattle.cms_signed_attributes.specs.Covered.{as_set};
+ghost use Rattle.x509_codec.specs.Covered.{as_set};
 ghost use Rattle.cms_signed_data.specs.SignedParts.{content_of, digest_of, signature_of};
 ghost use Rattle.cms_signed_data.specs.Written.{IsWritten, IsUnsigned, IsNoCertificate};
 
@@ -11,15 +11,14 @@ use crate::fault::SignedFault;
 use crate::form::OfForm;
 use crate::slices::Slices;
 use crate::written_parts::{attribute_bytes, signer_bytes, signer_id};
-use cms_signed_attributes::as_set;
-use key_functions::KeyFunctions;
 use picky_asn1::oid::ObjectIdentifier;
 use picky_asn1::wrapper::IntegerAsn1;
 use std::alloc::Global;
 use std::marker::Model;
 use x509_algorithms::AlgorithmIdentifier;
-use x509_codec::from_bytes;
-use x509_names::Name;
+use x509_codec::{as_set, from_bytes};
+use x509_fields::Name;
+use x509_keys::KeyFunctions;
 
 /// Signed data of one content, one certificate and one signer, with the parts of its bytes that are judged. A contract sees the
 /// value, the certificate's bytes and those of the signed attributes.
@@ -32,7 +31,7 @@ pub struct SignedContent<'a> {
 
 impl<'a> Model for SignedContent<'a> {
     ghost use Rattle.std.specs.Prelude.{◌≡◌};
-    ghost use Rattle.cms_signed_attributes.specs.Covered.{as_set};
+    ghost use Rattle.x509_codec.specs.Covered.{as_set};
     ghost use Rattle.cms_signed_data.specs.SignedParts.{SignedParts, content_of, digest_of, signature_of};
 
     ghost Value = { SignedParts };

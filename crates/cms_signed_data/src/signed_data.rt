@@ -11,7 +11,7 @@ use byte_streams::Sink;
 use picky_asn1_der::{Asn1DerError, Serialize, Serializer};
 use std::alloc::Global;
 use x509_certificates::Certificate;
-use x509_parts::RawAlgorithmIdentifier;
+use x509_fields::RawAlgorithmIdentifier;
 use x509_spelling::{Counted, Explicit, Spelled, SpelledFields, X509Fault, read_fields};
 
 /// A content, its signer's certificate, and the signer with its signature. Lists of revocation aren't read, not even an empty

@@ -13,8 +13,7 @@ use picky_asn1_der::{
 };
 use std::alloc::Global;
 use x509_algorithms::AlgorithmIdentifier;
-use x509_names::Name;
-use x509_parts::RawAlgorithmIdentifier;
+use x509_fields::{Name, RawAlgorithmIdentifier};
 use x509_spelling::{Ahead, Counted, Exact, Spelled, SpelledFields, X509Fault, read_fields};
 
 /// A certificate by its issuer and serial number (RFC 5652, section 10.2.4).

@@ -1,13 +1,13 @@
 //! The parts of signed data, where they are in its bytes.
 ghost use Rattle.std.specs.Prelude.{◌≡◌, ℕ, List, IsSomeAnd, MatchOption};
 ghost use Rattle.asn1_der.specs.Length.{element};
-ghost use Rattle.asn1_elements.specs.Parts.{IsPart};
+ghost use Rattle.picky_asn1_der.specs.Parts.{IsPart};
 ghost use Rattle.cms_signed_data.specs.declared.content_info.ContentInfo.{ContentInfo};
 ghost use Rattle.asn1_der.specs.Octets.{octet_string_octet};
 
 use crate::content_info::ContentInfo;
 use asn1_der::octets::OCTET_STRING;
-use asn1_elements::part_at;
+use picky_asn1_der::part_at;
 use x509_spelling::{Spelled, content_of};
 
 /// Parts of signed data, borrowed from its bytes.

@@ -15,7 +15,6 @@ use crate::fault::SignedFault;
 use crate::set_of_one::SetOfOne;
 use crate::signed_attributes::{ContentTypeAttribute, MessageDigestAttribute, SignedAttributes};
 use crate::signer_info::{IssuerAndSerialNumber, SignerInfo};
-use key_functions::{Signed, has_encoding};
 use picky_asn1::oid::ObjectIdentifier;
 use picky_asn1::wrapper::{
     ExplicitContextTag0, IntegerAsn1, ObjectIdentifierAsn1, OctetStringAsn1,
@@ -26,8 +25,8 @@ use std::alloc::{AllocError, Global};
 use x509_algorithms::AlgorithmIdentifier;
 use x509_certificates::Certificate;
 use x509_codec::from_bytes;
-use x509_names::Name;
-use x509_parts::RawAlgorithmIdentifier;
+use x509_fields::{Name, RawAlgorithmIdentifier};
+use x509_keys::{Signed, has_encoding};
 use x509_spelling::Spelled;
 
 /// The DER of issuer and serial number of the certificate that the bytes spell.

@@ -4,8 +4,7 @@ ghost use Rattle.std.specs.Int.{w32, to_be_bytes};
 ghost use Rattle.std.specs.Io.KnownBytes.{Appends};
 ghost use Rattle.example_acceptor.specs.Frames.{IsRead, IsToken, announced, framed};
 
-use byte_layouts::array_at;
-use byte_streams::{Sink, Source, WholeFault, read_full, write_whole};
+use byte_streams::{Sink, Source, WholeFault, array_at, read_full, write_whole};
 use std::alloc::{AllocError, Global};
 use thiserror::Error;
 

@@ -6,9 +6,8 @@ use anyhow::{Context as _, bail};
 use byte_streams::{Sink, Source, read_full};
 use gss_acceptor::{Accepted, Acceptor, Continuation, Established, Negotiation};
 use gss_contexts::Context;
-use krb_clock::now;
 use krb_commands::PrintableName;
-use krb_time::Moment;
+use krb_time::{Moment, now};
 use std::alloc::Global;
 use std::time::Clock;
 

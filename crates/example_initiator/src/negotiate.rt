@@ -5,9 +5,9 @@ use crate::party::Party;
 use crate::tokens::{first_token, say_established, take_answer};
 use base64::DecodeAllocError;
 use base64::engine::general_purpose::STANDARD;
+use decision_tables::if_passed;
 use gss_initiator::{Initiated, Pending, Progress, Taken};
 use krb_commands::{RandomFile, Stop, print_line, read_input, refused};
-use result_pairs::if_passed;
 
 /// How many octets the server's answer may have in base64.
 const ANSWER_LIMIT: u64 = 65_536;

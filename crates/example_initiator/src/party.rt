@@ -1,18 +1,18 @@
 //! The client of a credential cache, with its credential for the service.
 
 use crate::arguments::Asked;
+use decision_tables::both;
 use krb_client::{AskRefusal, Client, Credential, TicketTimes};
-use krb_clock::after_epoch;
 use krb_commands::{FileKind, Stop, octets_of, refused};
-use krb_credential_caches::{
+use krb_crypto::{CipherSuite, Key};
+use krb_file_formats::{
     CacheFault, CachePrincipal, CachedCredential, CredentialCache, CredentialTimes,
 };
-use krb_crypto::{CipherSuite, Key};
-use krb_types::data_types::{KerberosFlags, PrincipalName, Ticket};
+use krb_messages::data_types::{KerberosFlags, PrincipalName, Ticket};
+use krb_time::after_epoch;
 use picky_asn1::date::GeneralizedTime;
 use picky_asn1::wrapper::GeneralStringAsn1;
 use picky_asn1_der::read_whole;
-use result_pairs::both;
 use std::alloc::{AllocError, Global};
 
 /// A client, with its credential for a service.

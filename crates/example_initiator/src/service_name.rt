@@ -2,8 +2,8 @@
 
 use krb_accounts::{RealmRefusal, components_of, realm_name_of};
 use krb_commands::{Stop, principal_in, usage};
-use krb_credential_caches::CachePrincipal;
-use krb_types::{PrincipalText, is_same_name, is_same_realm};
+use krb_file_formats::CachePrincipal;
+use krb_messages::{PrincipalText, is_same_name, is_same_realm};
 use picky_asn1::wrapper::GeneralStringAsn1;
 use std::alloc::Global;
 

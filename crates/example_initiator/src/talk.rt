@@ -4,10 +4,10 @@ use crate::arguments::Asked;
 use crate::frames::{CONTEXT, CONTEXT_NEXT, DATA, ENCRYPTED, MIC, NOOP, Peer, SEND_MIC, WRAPPED};
 use crate::party::Party;
 use crate::tokens::{first_token, message_token, say_established, take_answer, verify};
+use decision_tables::if_passed;
 use gss_contexts::{Context, Protection};
 use gss_initiator::{Initiated, Pending, Progress, Taken};
 use krb_commands::{RandomFile, Stop};
-use result_pairs::if_passed;
 
 /// Establishes a context with the service, sends it the messages, and ends the context.
 pub(crate) fn talk(

@@ -1,13 +1,13 @@
 //! A login by certificate, with a key of RSA on each side.
 
 use crate::{HOST, Keys, REALM, SUITE, USER, random_bytes, use_ticket};
-use diffie_hellman::Group;
-use key_files::{certificate_in, private_key_in};
+use decision_tables::{both, if_passed};
 use krb_realm::{Anchor, Client, Realm, Settings, components_of_text};
-use result_pairs::{both, if_passed};
+use public_key_cryptography::Group;
 use rsa_keys::{OwnKey, RsaKeys};
 use std::alloc::Global;
 use std::fs;
+use x509_certificates::{certificate_in, private_key_in};
 
 /// The client asks its realm for a ticket by its certificate, and uses it.
 pub fn log_in_by_certificate(rt: &HostRuntime) -> anyhow::Result<()> {

@@ -9,12 +9,12 @@ mod stored_run;
 
 use anyhow::Context;
 use certificate_run::log_in_by_certificate;
+use decision_tables::if_passed;
 use krb_realm::{
     Admission, AsAsked, CipherSuite, Client, Credential, KeyFunctions, Moment, NoKeys, Realm,
     Service, Settings, components_of_text,
 };
 use replies::print_reply;
-use result_pairs::if_passed;
 use std::alloc::Global;
 use std::random::RandomSource;
 use stored_run::answer_kinit;

@@ -7,9 +7,9 @@ ghost use Rattle.std.specs.Prelude.{◌≤◌, length};
 ghost use Rattle.example_service.specs.Client.{IsClient};
 
 use krb_ap_requests::AdmitRefusal;
+use krb_messages::data_types::PrincipalName;
 use krb_service::{Admission, Service};
 use krb_time::Moment;
-use krb_types::data_types::PrincipalName;
 use std::alloc::Global;
 
 /// The name of the client that presents this AP-REQ, if the service admits it at this moment.

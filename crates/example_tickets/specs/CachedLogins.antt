@@ -2,9 +2,9 @@
 use Rattle.std.specs.Prelude.{List, [], ◌∷◌, Ok}
 use Rattle.decision_tables.specs.Tables.{done}
 use Rattle.picky_asn1.specs.Bytes.{Bytes}
-use Rattle.krb_keytabs.specs.Entries.{Entry}
+use Rattle.krb_file_formats.specs.Entries.{Entry}
 use Rattle.krb_client.specs.Client.{ClientRecord}
-use Rattle.krb_credential_caches.specs.Caches.{Cache}
+use Rattle.krb_file_formats.specs.Caches.{Cache}
 use Rattle.krb_client_exchanges.specs.declared.wanted.Wanted.TheVariants.{Usual}
 use Rattle.krb_client_exchanges.specs.LoginCaches.{login_cache}
 use Rattle.krb_client_exchanges.specs.Courses.{Course, ◌>>=◌, judged}

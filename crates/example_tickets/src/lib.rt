@@ -10,8 +10,7 @@ ghost use Rattle.example_tickets.specs.CachedLogins.{cached_login};
 
 use krb_client::Client;
 use krb_client_exchanges::{ExchangeFault, Kdc, Wanted, cache_of, log_in_by_keytab, ticket_for};
-use krb_credential_caches::CredentialCache;
-use krb_keytabs::KeytabRecord;
+use krb_file_formats::{CredentialCache, KeytabRecord};
 use std::alloc::Global;
 
 /// A credential cache with a ticket for the service, for a client that has its keys in a keytab.

@@ -2,7 +2,7 @@
 use Rattle.std.proofs.Common.{◌≡◌, ℕ, List, [], ◌++◌, Option, None, Some, MatchOption, append-nil, refl, sym, ap, ◌∙◌}
 use Rattle.asn1_der.specs.Length.{element}
 use Rattle.asn1_der.proofs.Elements.{element-one}
-use Rattle.asn1_elements.specs.Splits.{IsNoSplit}
+use Rattle.picky_asn1_der.specs.Splits.{IsNoSplit}
 use Rattle.gss_acceptor.specs.Tokens.{IsApReqToken, ap_req_front}
 use Rattle.krb_constants.specs.declared.gss_api.TheConstants.{INITIAL_TOKEN}
 

@@ -1,7 +1,7 @@
 -- What a token of SPNEGO holds, as it is read.
 use Rattle.std.proofs.Common.{◌≡◌, ℕ, List, Result, Err, refl, inl, inr}
-use Rattle.gss_context_tokens.specs.declared.gss_api_neg_init.GssApiNegInit.{GssApiNegInit}
-use Rattle.gss_context_tokens.specs.declared.neg_token_targ.NegTokenTarg.{NegTokenTarg}
+use Rattle.gss_contexts.specs.declared.context_tokens.gss_api_neg_init.GssApiNegInit.{GssApiNegInit}
+use Rattle.gss_contexts.specs.declared.context_tokens.neg_token_targ.NegTokenTarg.{NegTokenTarg}
 use Rattle.gss_acceptor.specs.Negotiation.{IsNegInit, IsRead, offer_in, offered}
 use Rattle.gss_acceptor.specs.Responses.{IsNegResp, responded, tokens_in}
 use Rattle.gss_acceptor.specs.declared.negotiation.Offer.{Offer}

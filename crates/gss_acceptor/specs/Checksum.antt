@@ -3,9 +3,9 @@
 use Rattle.std.specs.Prelude.{◌==◌, ◌||◌, not, bytes_eq, nat_lt, length, replicate, take, drop, Option, None, Some, Result, Ok, Err, if◌then◌else◌}
 use Rattle.picky_asn1.specs.Bytes.{Bytes}
 use Rattle.picky_asn1.specs.Numbers.{is_number}
-use Rattle.byte_layouts.specs.Numbers.{le32_at}
+use Rattle.byte_streams.specs.Numbers.{le32_at}
 use Rattle.krb_constants.specs.declared.cksum_types.TheConstants.{GSS_API}
-use Rattle.krb_types.specs.declared.data_types.checksum.Checksum.{Checksum}
+use Rattle.krb_messages.specs.declared.data_types.checksum.Checksum.{Checksum}
 use Rattle.gss_acceptor.specs.declared.checksum.TheConstants.{BINDINGS, SIZE}
 use Rattle.gss_acceptor.specs.declared.checksum.InitialChecksum.{InitialChecksum}
 use Rattle.gss_acceptor.specs.declared.refusal.AcceptRefusal.{AcceptRefusal}

@@ -2,7 +2,7 @@
 -- section 3.2.3).
 use Rattle.std.specs.Prelude.{◌≡◌, ◌≤◌, ℕ, Bool, true, false, Ok}
 use Rattle.krb_crypto.specs.Keys.{KeyRecord}
-use Rattle.krb_types.specs.RandomBytes.{Random}
+use Rattle.krb_messages.specs.RandomBytes.{Random}
 use Rattle.krb_service.specs.Admission.{checksum_of, seq_number_of, subkey_of}
 use Rattle.krb_ap_requests.specs.Presents.{Choice}
 use Rattle.gss_acceptor.specs.Checksum.{initial_in}

@@ -4,9 +4,9 @@ use Rattle.std.specs.Option.{option_map}
 use Rattle.asn1_leaves.specs.GeneralizedTime.{seconds_of}
 use Rattle.krb_time.specs.Units.{Micros}
 use Rattle.krb_crypto.specs.Keys.{KeyRecord}
-use Rattle.krb_encrypted_data.specs.Keys.{key_in, suite_of}
-use Rattle.krb_types.specs.RandomBytes.{Random}
-use Rattle.krb_types.specs.declared.data_types.encryption_key.EncryptionKey.{EncryptionKey}
+use Rattle.krb_tickets.specs.Keys.{key_in, suite_of}
+use Rattle.krb_messages.specs.RandomBytes.{Random}
+use Rattle.krb_messages.specs.declared.data_types.encryption_key.EncryptionKey.{EncryptionKey}
 use Rattle.krb_service.specs.Admission.{AdmissionRecord}
 use Rattle.krb_service.specs.ApReply.{reply_number, reply_subkey}
 use Rattle.krb_service.specs.declared.reply.ReplyFields.{ReplyFields}

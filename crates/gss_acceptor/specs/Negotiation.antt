@@ -12,9 +12,9 @@ use Rattle.asn1_der.specs.Tagged.{tagged_tree}
 use Rattle.asn1_der.proofs.Tagged.{tagged-injective}
 use Rattle.decision_tables.specs.One.{IsSole}
 use Rattle.decision_tables.specs.Tables.{Table, ask, done}
-use Rattle.gss_context_tokens.specs.declared.gss_api_neg_init.GssApiNegInit.{GssApiNegInit}
-use Rattle.gss_context_tokens.specs.declared.neg_token_init.NegTokenInit.{NegTokenInit}
-use Rattle.gss_context_tokens.specs.contracts.gss_api_neg_init.GssApiNegInitTagged.TheImpl as neg_init_impl
+use Rattle.gss_contexts.specs.declared.context_tokens.gss_api_neg_init.GssApiNegInit.{GssApiNegInit}
+use Rattle.gss_contexts.specs.declared.context_tokens.neg_token_init.NegTokenInit.{NegTokenInit}
+use Rattle.gss_contexts.specs.contracts.context_tokens.gss_api_neg_init.GssApiNegInitTagged.TheImpl as neg_init_impl
 use Rattle.gss_acceptor.specs.Mechanisms.{is_first, kerberos_among, spnego_octets}
 use Rattle.gss_acceptor.specs.declared.exchange.Tokens.{Tokens}
 use Rattle.gss_acceptor.specs.declared.mechanism.Mechanism.{Mechanism}

@@ -9,8 +9,8 @@ use Rattle.asn1_der.proofs.Spelling.{IsInjective, wrapped-injective}
 use Rattle.asn1_der.proofs.Tagged.{tagged-injective}
 use Rattle.decision_tables.specs.One.{IsSole}
 use Rattle.decision_tables.specs.Tables.{Table, ask, done}
-use Rattle.gss_context_tokens.specs.declared.neg_token_targ.NegTokenTarg.{NegTokenTarg}
-use Rattle.gss_context_tokens.specs.contracts.neg_token_targ.NegTokenTargTagged.TheImpl as targ_impl
+use Rattle.gss_contexts.specs.declared.context_tokens.neg_token_targ.NegTokenTarg.{NegTokenTarg}
+use Rattle.gss_contexts.specs.contracts.context_tokens.neg_token_targ.NegTokenTargTagged.TheImpl as targ_impl
 use Rattle.gss_acceptor.specs.declared.exchange.Tokens.{Tokens}
 use Rattle.gss_acceptor.specs.declared.refusal.AcceptRefusal.{AcceptRefusal}
 use Rattle.gss_acceptor.specs.declared.refusal.AcceptRefusal.TheVariants.{NoMic, NotAToken}

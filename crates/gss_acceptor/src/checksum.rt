@@ -4,9 +4,9 @@ ghost use Rattle.std.specs.Int.Bits.{bit_and};
 ghost use Rattle.gss_acceptor.specs.Checksum.{bound_by, initial_in, initial_of, initial_sum};
 
 use crate::refusal::AcceptRefusal;
-use byte_layouts::{array_at, u32_le};
+use byte_streams::{array_at, u32_le};
 use krb_constants::cksum_types::GSS_API;
-use krb_types::data_types::Checksum;
+use krb_messages::data_types::Checksum;
 use picky_asn1::is_number;
 
 /// The length of the hash of the channel bindings: 16 octets (RFC 4121, section 4.1.1).

@@ -13,11 +13,11 @@ use crate::refusal::AcceptRefusal;
 use crate::terms::AcceptorTerms;
 use gss_contexts::{Context, ContextTerms, SequenceNumbers, Side};
 use krb_crypto::{CipherSuite, Key};
-use krb_encrypted_data::{key_of, suite_of};
+use krb_messages::data_types::EncryptionKey;
+use krb_messages::random_bytes::SUBKEY_SEED;
 use krb_service::{Admission, reply_number};
+use krb_tickets::{key_of, suite_of};
 use krb_time::Moment;
-use krb_types::data_types::EncryptionKey;
-use krb_types::random_bytes::SUBKEY_SEED;
 use picky_asn1::date::GeneralizedTime;
 use picky_asn1::wrapper::IntegerAsn1;
 

@@ -7,7 +7,7 @@ use crate::elements::octets_in;
 use crate::exchange::{Terms, Tokens};
 use crate::mechanism::{Mechanism, is_first, kerberos_among};
 use crate::refusal::AcceptRefusal;
-use gss_context_tokens::{ApplicationTag0, GssApiNegInit, MechTypeList, NegTokenInit};
+use gss_contexts::{ApplicationTag0, GssApiNegInit, MechTypeList, NegTokenInit};
 use picky_asn1::wrapper::{ObjectIdentifierAsn1, OctetStringAsn1};
 use picky_asn1_der::{encoding_of, read_whole};
 use std::alloc::{AllocError, Global};

@@ -6,7 +6,7 @@ ghost use Rattle.gss_acceptor.specs.Responses.{responded, tokens_in};
 use crate::elements::octets_in;
 use crate::exchange::Tokens;
 use crate::refusal::AcceptRefusal;
-use gss_context_tokens::{NegTokenTarg, NegTokenTarg1};
+use gss_contexts::{NegTokenTarg, NegTokenTarg1};
 use picky_asn1_der::read_whole;
 use std::alloc::Global;
 

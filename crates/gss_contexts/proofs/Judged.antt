@@ -5,10 +5,10 @@ use Rattle.std.proofs.lemmas.Bool.{and_parts, leb-true, false≢true}
 use Rattle.std.proofs.lemmas.Bool.Decides.{Decides-eqb, nat_tests}
 use Rattle.std.proofs.lemmas.Slice.Eq.{bytes_eq-Decides}
 use Rattle.std.specs.Bool.{beq}
-use Rattle.byte_layouts.specs.Parts.{part, Stands}
-use Rattle.byte_layouts.specs.Numbers.{be16, be16_at}
-use Rattle.byte_layouts.proofs.NumberLaws.{AreBytes, be16-again, be16-stands}
-use Rattle.byte_layouts.proofs.PartLaws.{byte-read, byte-again}
+use Rattle.byte_streams.specs.Parts.{part, Stands}
+use Rattle.byte_streams.specs.Numbers.{be16, be16_at}
+use Rattle.byte_streams.proofs.NumberLaws.{AreBytes, be16-again, be16-stands}
+use Rattle.byte_streams.proofs.PartLaws.{byte-read, byte-again}
 use Rattle.gss_contexts.specs.Contexts.{ContextRecord, other_side, peer}
 use Rattle.gss_contexts.specs.Judging.{IsCarried, IsPeersHeader, TakesWrap, is_mic, is_wrap, protection_of}
 use Rattle.gss_contexts.specs.Tokens.{Carries, IsMicOf, IsWrapOf, is_acceptor, is_sealed, is_set, rotated_right, sign_usage, sum_of}

@@ -1,3 +1,16 @@
+pub mod GivenBack
+pub mod IntegrityLaws
+pub mod Judgements
+pub mod ReadingLaws
+pub mod MessageTokenLaws
+pub mod WritingLaws
+pub mod HeaderReading
+pub mod MessageLaws
+pub mod ProxyLemmas
+pub mod ContextTokenLaws
+pub mod Unread
+pub mod Values
+pub mod ContextTokensWritten
 mod Ends
 mod Judged
 mod Opened

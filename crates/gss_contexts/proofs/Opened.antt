@@ -3,9 +3,9 @@ use Rattle.std.proofs.Common.{◌≡◌, ◌⊎◌, ℕ, ◌+◌, ◌-◌, List,
 use Rattle.std.proofs.lemmas.Bool.{false≢true}
 use Rattle.std.proofs.lemmas.List.{length-append, length-drop, take_all}
 use Rattle.std.proofs.lemmas.Slice.Eq.{bytes_eq-Decides}
-use Rattle.byte_layouts.specs.Numbers.{be16_at}
-use Rattle.aes_cts.specs.declared.error.KerberosCryptoError.{KerberosCryptoError}
-use Rattle.aes_cts.specs.declared.error.KerberosCryptoError.TheVariants as crypto
+use Rattle.byte_streams.specs.Numbers.{be16_at}
+use Rattle.block_ciphers.specs.declared.error.KerberosCryptoError.{KerberosCryptoError}
+use Rattle.block_ciphers.specs.declared.error.KerberosCryptoError.TheVariants as crypto
 use Rattle.krb_crypto.specs.Sealing.{IsSealedBy, cipher_padded}
 use Rattle.krb_crypto.specs.declared.suite.CipherSuite.{CipherSuite}
 use Rattle.krb_crypto.specs.declared.suite.CipherSuite.TheVariants.{Aes128CtsHmacSha196, Aes256CtsHmacSha196, Des3CbcSha1Kd, Aes128CtsHmacSha256128, Aes256CtsHmacSha384192}

@@ -5,9 +5,9 @@ use Rattle.std.proofs.lemmas.Bool.Decides.{Decides-eqb, nat_tests}
 use Rattle.std.proofs.lemmas.Slice.Eq.{bytes_eq-Decides}
 use Rattle.std.specs.Bool.{beq}
 use Rattle.std.specs.Cmp.{booleans_Decides}
-use Rattle.byte_layouts.specs.Numbers.{be16_at, be64_at}
-use Rattle.byte_layouts.proofs.NumberLaws.{be64-again}
-use Rattle.byte_layouts.proofs.PartLaws.{byte-again}
+use Rattle.byte_streams.specs.Numbers.{be16_at, be64_at}
+use Rattle.byte_streams.proofs.NumberLaws.{be64-again}
+use Rattle.byte_streams.proofs.PartLaws.{byte-again}
 use Rattle.gss_contexts.specs.Contexts.{ContextRecord, IsInOrder, is_gap, last_number, other_side, peer}
 use Rattle.gss_contexts.specs.Judging.{IsMicRefusal, IsUnread, IsWrapRefusal, TakesWrap, is_mic, is_wrap, judged}
 use Rattle.gss_contexts.specs.Tokens.{Carries, IsMarked, IsMicOf, IsWrapOf, header_without_rrc, is_acceptor, is_set}

@@ -1,11 +1,11 @@
 -- What is written is a token of its message.
 use Rattle.std.proofs.Common.{◌≡◌, ℕ, ◌+◌, ◌^◌, ◌<◌, List, [], ◌∷◌, ◌++◌, length, take, drop, false, true, refl, ap, sym, subst, ◌∙◌, arith}
 use Rattle.std.proofs.lemmas.List.{take_at, drop-drop, length-drop, take-append-drop, nil_from_length, append-nil}
-use Rattle.byte_layouts.specs.Parts.{IsLaidOut}
-use Rattle.byte_layouts.specs.Numbers.{be16, be64}
+use Rattle.byte_streams.specs.Parts.{IsLaidOut}
+use Rattle.byte_streams.specs.Numbers.{be16, be64}
 use Rattle.krb_crypto.specs.Sealing.{IsSealedBy}
-use Rattle.gss_message_tokens.specs.Tokens.{IsWrapToken, mic_header, wrap_header}
-use Rattle.gss_message_tokens.proofs.TokenLaws.{mic-of_header, wrap-of_header}
+use Rattle.gss_contexts.specs.MessageTokens.{IsWrapToken, mic_header, wrap_header}
+use Rattle.gss_contexts.proofs.MessageTokenLaws.{mic-of_header, wrap-of_header}
 use Rattle.gss_contexts.specs.Tokens.{Carries, IsMarked, IsSealedText, IsSummedText, WritesMic, WritesWrap, header_without_counts, header_without_rrc, is_sealed, rotated_right, seal_usage, sign_usage, sum_of}
 use Rattle.gss_contexts.specs.declared.sender.Sender.{Sender}
 use Rattle.gss_contexts.specs.declared.side.Protection.{Protection}

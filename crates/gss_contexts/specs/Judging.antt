@@ -1,13 +1,13 @@
 -- Which tokens an end takes, and what it refuses the others by.
 use Rattle.std.specs.Prelude.{◌≡◌, ◌⊎◌, ℕ, ◌+◌, ◌≤◌, ◌<◌, List, length, take, drop, slice_index, Bool, true, false, not, ◌&&◌, nat_le, nat_lt, nat_eq, bytes_eq, Result, Ok, Err, if◌then◌else◌}
 use Rattle.std.specs.Bool.{beq}
-use Rattle.byte_layouts.specs.Numbers.{be16_at, be64, be64_at}
-use Rattle.byte_layouts.specs.Parts.{part, Stands}
-use Rattle.aes_cts.specs.declared.error.KerberosCryptoError.{KerberosCryptoError}
-use Rattle.aes_cts.specs.declared.error.KerberosCryptoError.TheVariants as crypto
+use Rattle.byte_streams.specs.Numbers.{be16_at, be64, be64_at}
+use Rattle.byte_streams.specs.Parts.{part, Stands}
+use Rattle.block_ciphers.specs.declared.error.KerberosCryptoError.{KerberosCryptoError}
+use Rattle.block_ciphers.specs.declared.error.KerberosCryptoError.TheVariants as crypto
 use Rattle.krb_crypto.specs.Sealing.{IsSealedBy}
 use Rattle.krb_constants.specs.declared.gss_api.TheConstants.{ACCEPTOR_SUBKEY, MIC_FILLER, MIC_TOKEN_ID, SEALED, SENT_BY_ACCEPTOR, WRAP_FILLER, WRAP_TOKEN_ID}
-use Rattle.gss_message_tokens.specs.declared.kind.TheConstants.{HEADER_LEN}
+use Rattle.gss_contexts.specs.declared.message_tokens.kind.TheConstants.{HEADER_LEN}
 use Rattle.gss_contexts.specs.Contexts.{ContextRecord, IsInOrder, is_gap, peer, last_number}
 use Rattle.gss_contexts.specs.Tokens.{is_acceptor, is_set, rotated_right, seal_usage, Carries, IsMicOf, IsWrapOf}
 use Rattle.gss_contexts.specs.declared.refusal.TokenRefusal.{TokenRefusal}

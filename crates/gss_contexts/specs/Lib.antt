@@ -1,3 +1,15 @@
+pub mod Faults
+pub mod Integrity
+pub mod MessageTokenJudging
+pub mod MessageTokenRefusals
+pub mod MessageTokens
+pub mod Fronts
+pub mod HeaderLaws
+pub mod Headers
+pub mod KrbMessages
+pub mod ProxyValues
+pub mod ContextTokenRefusals
+pub mod ContextTokens
 pub mod Contexts
 pub mod Judging
 pub mod Tokens

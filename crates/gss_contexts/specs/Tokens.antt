@@ -7,8 +7,8 @@ use Rattle.krb_crypto.specs.Suites.{cipher_checksum}
 use Rattle.krb_crypto.specs.Keys.{KeyRecord}
 use Rattle.krb_constants.specs.declared.key_usages.TheConstants.{ACCEPTOR_SEAL, ACCEPTOR_SIGN, INITIATOR_SEAL, INITIATOR_SIGN}
 use Rattle.krb_constants.specs.declared.gss_api.TheConstants.{ACCEPTOR_SUBKEY, SEALED, SENT_BY_ACCEPTOR}
-use Rattle.gss_message_tokens.specs.declared.kind.TheConstants.{HEADER_LEN}
-use Rattle.gss_message_tokens.specs.Tokens.{IsMicToken, IsWrapToken}
+use Rattle.gss_contexts.specs.declared.message_tokens.kind.TheConstants.{HEADER_LEN}
+use Rattle.gss_contexts.specs.MessageTokens.{IsMicToken, IsWrapToken}
 use Rattle.gss_contexts.specs.declared.sender.Sender.{Sender}
 use Rattle.gss_contexts.specs.declared.side.Side.{Side}
 use Rattle.gss_contexts.specs.declared.side.Side.TheVariants.{Initiator, Acceptor}

@@ -11,7 +11,7 @@ use crate::refusal::TokenRefusal;
 use crate::sender::Sender;
 use crate::side::{Protection, Side};
 use crate::terms::{ContextTerms, SequenceNumbers};
-use byte_layouts::u64_be;
+use byte_streams::u64_be;
 use krb_constants::gss_api::{ACCEPTOR_SUBKEY, SENT_BY_ACCEPTOR};
 use krb_crypto::{CipherSuite, Key};
 use krb_time::Moment;

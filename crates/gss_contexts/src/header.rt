@@ -1,13 +1,13 @@
 //! The headers of tokens (RFC 4121, section 4.2.6).
 ghost use Rattle.std.specs.Prelude.{◌≡◌, ◌≤◌, [], length, IsTrue};
-ghost use Rattle.byte_layouts.specs.Parts.{IsLaidOut};
+ghost use Rattle.byte_streams.specs.Parts.{IsLaidOut};
 ghost use Rattle.krb_constants.specs.declared.gss_api.TheConstants.{SEALED};
-ghost use Rattle.gss_message_tokens.specs.Tokens.{mic_header, wrap_header};
+ghost use Rattle.gss_contexts.specs.MessageTokens.{mic_header, wrap_header};
 ghost use Rattle.gss_contexts.specs.Judging.{is_mic, is_wrap, protection_of};
 ghost use Rattle.gss_contexts.specs.Tokens.{flag_if, header_without_counts, header_without_rrc, is_set};
 
 use crate::side::Protection;
-use gss_message_tokens::{HEADER_LEN, MicToken, WrapToken};
+use crate::{HEADER_LEN, MicToken, WrapToken};
 use krb_constants::gss_api::{MIC_FILLER, MIC_TOKEN_ID, SEALED, WRAP_FILLER, WRAP_TOKEN_ID};
 use std::alloc::Global;
 

@@ -1,19 +1,19 @@
 //! Taking tokens of the peer.
 ghost use Rattle.std.specs.Prelude.{◌≡◌, ◌⊎◌, ◌≤◌, ◌++◌, ℕ, List, length, take, drop, bytes_eq, IfOk, IfErr, IsTrue, MatchOption};
-ghost use Rattle.byte_layouts.specs.Numbers.{be16_at};
+ghost use Rattle.byte_streams.specs.Numbers.{be16_at};
 ghost use Rattle.gss_contexts.specs.Contexts.{is_newer, peer_of};
 ghost use Rattle.gss_contexts.specs.Judging.{IsCarried, IsUnopened, IsUnread, refusal_of};
 ghost use Rattle.gss_contexts.specs.Tokens.{Carries, header_without_rrc, sign_usage, sum_of};
 ghost use Rattle.gss_contexts.specs.declared.refusal.TokenRefusal.TheVariants.{Memory, OtherHeader};
 ghost use Rattle.gss_contexts.specs.declared.side.Protection.TheVariants.{Sealed, Checksum};
 
+use crate::HEADER_LEN;
 use crate::header::{header_without_counts, header_without_rrc};
 use crate::octets::{checksum, rotated_back};
 use crate::refusal::TokenRefusal;
 use crate::sender::Sender;
 use crate::side::Protection;
-use byte_layouts::u16_be;
-use gss_message_tokens::HEADER_LEN;
+use byte_streams::u16_be;
 use krb_crypto::KerberosCryptoError;
 use std::alloc::{AllocError, Global};
 

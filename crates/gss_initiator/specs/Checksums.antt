@@ -1,10 +1,10 @@
 -- The checksum of an initiator's authenticator (RFC 4121, section 4.1.1).
 use Rattle.std.specs.Prelude.{◌++◌, length, nat_le, nat_lt, Bool, ◌||◌, Option, None, Some, pos, replicate, if◌then◌else◌}
 use Rattle.picky_asn1.specs.Bytes.{Bytes}
-use Rattle.byte_layouts.specs.Numbers.{le32}
+use Rattle.byte_streams.specs.Numbers.{le32}
 use Rattle.md5.specs.Md5.{md5}
 use Rattle.krb_constants.specs.declared.cksum_types.TheConstants.{GSS_API}
-use Rattle.krb_types.specs.declared.data_types.checksum.Checksum.{Checksum}
+use Rattle.krb_messages.specs.declared.data_types.checksum.Checksum.{Checksum}
 use Rattle.gss_contexts.specs.Tokens.{is_set}
 use Rattle.gss_acceptor.specs.declared.context_flags.TheConstants.{DELEGATION, MUTUAL, SEQUENCE}
 use Rattle.gss_acceptor.specs.declared.checksum.TheConstants.{BINDINGS}

@@ -2,9 +2,9 @@
 use Rattle.std.specs.Prelude.{ℕ, ℤ, Bool, true, false, Option, None, Some, Result, Ok, Err, if◌then◌else◌}
 use Rattle.std.specs.Option.{option_map}
 use Rattle.krb_crypto.specs.Keys.{KeyRecord}
-use Rattle.krb_encrypted_data.specs.Keys.{key_in}
-use Rattle.krb_types.specs.declared.data_types.enc_ap_rep_part.EncApRepPartInner.{EncApRepPartInner}
-use Rattle.krb_types.specs.declared.data_types.encryption_key.EncryptionKey.{EncryptionKey}
+use Rattle.krb_tickets.specs.Keys.{key_in}
+use Rattle.krb_messages.specs.declared.data_types.enc_ap_rep_part.EncApRepPartInner.{EncApRepPartInner}
+use Rattle.krb_messages.specs.declared.data_types.encryption_key.EncryptionKey.{EncryptionKey}
 use Rattle.gss_contexts.specs.Contexts.{ContextRecord, context_of, is_newer}
 use Rattle.gss_contexts.specs.declared.terms.SequenceNumbers.{SequenceNumbers}
 use Rattle.gss_contexts.specs.declared.side.Side.TheVariants.{Initiator}

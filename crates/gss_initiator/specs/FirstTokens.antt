@@ -6,7 +6,7 @@ use Rattle.asn1_der.specs.Length.{element, length_octets}
 use Rattle.asn1_der.specs.Tree.{der}
 use Rattle.asn1_leaves.specs.ObjectIdentifier.{oid_content, subidentifier}
 use Rattle.x509_oids.specs.Identifiers as oids
-use Rattle.gss_context_tokens.specs.declared.gss_api_neg_init.GssApiNegInit.{GssApiNegInit}
+use Rattle.gss_contexts.specs.declared.context_tokens.gss_api_neg_init.GssApiNegInit.{GssApiNegInit}
 use Rattle.gss_acceptor.specs.Negotiation.{mech_types_octets, neg_init_tree}
 use Rattle.gss_acceptor.specs.Tokens.{ap_req_front}
 use Rattle.gss_initiator.specs.declared.initiated.TokenForm.{TokenForm}

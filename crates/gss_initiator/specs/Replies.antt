@@ -6,7 +6,7 @@ use Rattle.picky_asn1.specs.Bytes.{Bytes}
 use Rattle.asn1_der.specs.Length.{element}
 use Rattle.asn1_der.proofs.Elements.{element-one}
 use Rattle.krb_constants.specs.declared.types.TheConstants.{AP_REP_MSG_TYPE}
-use Rattle.krb_types.specs.declared.data_types.enc_ap_rep_part.EncApRepPartInner.{EncApRepPartInner}
+use Rattle.krb_messages.specs.declared.data_types.enc_ap_rep_part.EncApRepPartInner.{EncApRepPartInner}
 use Rattle.krb_messages.specs.declared.messages.ap_rep.ApRepInner.{ApRepInner}
 use Rattle.krb_messages.specs.Messages.{IsApRep, sole_ap_rep}
 use Rattle.decision_tables.specs.One.{IsSole}

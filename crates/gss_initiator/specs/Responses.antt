@@ -5,13 +5,13 @@ use Rattle.std.specs.Cmp.Lexicographic.{pointwise}
 use Rattle.std.specs.Option.{option_map}
 use Rattle.picky_asn1.specs.Bytes.{Bytes}
 use Rattle.asn1_der.specs.Length.{element}
-use Rattle.asn1_elements.specs.Raw.{Raw}
+use Rattle.picky_asn1_der.specs.Raw.{Raw}
 use Rattle.picky_asn1_der.specs.declared.wrapper.ExplicitContextTag.{ExplicitContextTag}
 use Rattle.picky_asn1.specs.declared.wrapper.ObjectIdentifierAsn1.{ObjectIdentifierAsn1}
 use Rattle.decision_tables.specs.Tables.{Table, and_then, ask, done, refuse}
 use Rattle.krb_constants.specs.declared.gss_api.TheConstants.{ACCEPT_COMPLETE, ACCEPT_INCOMPLETE, REJECT, REQUEST_MIC}
 use Rattle.gss_contexts.specs.Contexts.{ContextRecord}
-use Rattle.gss_context_tokens.specs.declared.neg_token_targ.NegTokenTarg.{NegTokenTarg}
+use Rattle.gss_contexts.specs.declared.context_tokens.neg_token_targ.NegTokenTarg.{NegTokenTarg}
 use Rattle.gss_acceptor.specs.Mechanisms.{kerberos_in}
 use Rattle.gss_acceptor.specs.Responses.{IsNegResp, sole_neg_resp}
 use Rattle.gss_initiator.specs.Contexts.{own_context, then_judged}

@@ -9,18 +9,18 @@ use crate::checksum::is_beyond;
 use crate::initiated::{Initiated, Pending, Progress, TokenForm};
 use crate::refusal::InitiateRefusal;
 use crate::request::context_request;
+use decision_tables::both;
 use gss_acceptor::context_flags::{MUTUAL, SEQUENCE};
 use gss_acceptor::{AP_REQ_FRONT, ContextFlags, InitialChecksum, element_of, joined};
-use gss_context_tokens::{ApplicationTag0, GssApiNegInit, MechTypeList, NegTokenInit};
+use gss_contexts::{ApplicationTag0, GssApiNegInit, MechTypeList, NegTokenInit};
 use krb_client::{ApAsked, Client, Credential, nonce_of};
 use krb_constants::gss_api::INITIAL_TOKEN;
 use krb_crypto::{CipherSuite, Key};
-use krb_encrypted_data::key_at;
+use krb_messages::random_bytes::SUBKEY_SEED;
+use krb_tickets::key_at;
 use krb_time::Moment;
-use krb_types::random_bytes::SUBKEY_SEED;
 use picky_asn1::wrapper::{ObjectIdentifierAsn1, OctetStringAsn1};
 use picky_asn1_der::{ExplicitContextTag, Optional, encoding_of};
-use result_pairs::both;
 use std::alloc::{AllocError, Global};
 
 /// Asks the credential's service for a context, at a moment: makes the first token (RFC 4121, section 4.1). `initial` has the hash of the

@@ -2,11 +2,11 @@
 ghost use Rattle.std.specs.Prelude.{◌≡◌, IfOk};
 ghost use Rattle.gss_initiator.specs.Checksums.{bindings_of, initial_checksum, is_beyond};
 
-use byte_layouts::u32_le_bytes;
+use byte_streams::u32_le_bytes;
 use gss_acceptor::context_flags::DELEGATION;
 use gss_acceptor::{BINDINGS, ContextFlags, InitialChecksum};
 use krb_constants::cksum_types::GSS_API;
-use krb_types::data_types::Checksum;
+use krb_messages::data_types::Checksum;
 use md5::{Digest, Md5};
 use picky_asn1::wrapper::{IntegerAsn1, OctetStringAsn1};
 use picky_asn1_der::ExplicitContextTag;

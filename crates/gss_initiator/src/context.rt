@@ -8,8 +8,8 @@ use crate::refusal::InitiateRefusal;
 use gss_acceptor::number_of;
 use gss_contexts::{Context, ContextTerms, SequenceNumbers, Side};
 use krb_crypto::Key;
-use krb_encrypted_data::key_of;
-use krb_types::data_types::{EncApRepPartInner, EncryptionKey};
+use krb_messages::data_types::{EncApRepPartInner, EncryptionKey};
+use krb_tickets::key_of;
 use picky_asn1::wrapper::IntegerAsn1;
 use picky_asn1_der::ExplicitContextTag;
 

@@ -9,8 +9,8 @@ use gss_acceptor::{AP_REP_FRONT, content_of};
 use gss_contexts::Context;
 use krb_client::{ApAsked, is_of_type, open_ap_part, read_ap_reply, read_error_code, tells};
 use krb_constants::types::AP_REP_MSG_TYPE;
+use krb_messages::data_types::EncApRepPartInner;
 use krb_messages::messages::ApRepInner;
-use krb_types::data_types::EncApRepPartInner;
 use std::alloc::Global;
 
 /// The length of the octets before a message in its token.

@@ -1,21 +1,21 @@
 //! The AP-REQ of a context (RFC 4121, section 4.1.1).
 ghost use Rattle.std.specs.Prelude.{◌≡◌, ◌≤◌, length, IfOk, Some};
-ghost use Rattle.krb_encrypted_data.specs.Sealing.{encryption_key};
+ghost use Rattle.krb_tickets.specs.Sealing.{encryption_key};
 ghost use Rattle.gss_initiator.specs.Requests.{AsksContext, IsContextAuthenticator, context_parts, own_subkey};
 
 use crate::checksum::initial_checksum;
+use decision_tables::both;
 use gss_acceptor::InitialChecksum;
 use gss_acceptor::context_flags::MUTUAL;
 use krb_client::{Client, Credential, ap_request_with, nonce_of};
 use krb_constants::key_usages::AP_REQ_AUTHENTICATOR;
 use krb_crypto::CipherSuite;
-use krb_encrypted_data::{confounder_at, encryption_key, key_at};
+use krb_messages::data_types::{AuthenticatorInner, Checksum, EncryptionKey};
+use krb_messages::random_bytes::{AUTHENTICATOR_CONFOUNDER, SUBKEY_SEED};
+use krb_tickets::{confounder_at, encryption_key, key_at};
 use krb_time::Moment;
-use krb_types::data_types::{AuthenticatorInner, Checksum, EncryptionKey};
-use krb_types::random_bytes::{AUTHENTICATOR_CONFOUNDER, SUBKEY_SEED};
 use picky_asn1::wrapper::IntegerAsn1;
 use picky_asn1_der::{ExplicitContextTag, Optional};
-use result_pairs::both;
 use std::alloc::{AllocError, Global};
 
 // What the authenticator of a context has beside the client's: the checksum, the subkey and the first sequence number.

@@ -4,9 +4,9 @@ use Rattle.std.proofs.lemmas.Bool.{eq-eqb}
 use Rattle.std.proofs.lemmas.Bool.Decides.{nat_tests}
 use Rattle.std.proofs.lemmas.List.{drop_at, length-append, length-drop, length-take-le, take_all, take_at}
 use Rattle.std.specs.Prelude.{◌&&◌, is_some, pos, ◌==◌, ◌||◌}
-use Rattle.byte_layouts.specs.Numbers.{le32, le32_at}
-use Rattle.byte_layouts.specs.Parts.{part, Stands}
-use Rattle.byte_layouts.proofs.NumberLaws.{le32-again, length-le32}
+use Rattle.byte_streams.specs.Numbers.{le32, le32_at}
+use Rattle.byte_streams.specs.Parts.{part, Stands}
+use Rattle.byte_streams.proofs.NumberLaws.{le32-again, length-le32}
 use Rattle.asn1_leaves.specs.GeneralizedTime.{seconds_of}
 use Rattle.asn1_leaves.specs.declared.date.GeneralizedTime.{GeneralizedTime}
 use Rattle.picky_asn1.specs.Bytes.{Bytes}
@@ -15,18 +15,18 @@ use Rattle.krb_crypto.specs.Suites.{cipher_key_size, cipher_seed_size}
 use Rattle.krb_crypto.specs.declared.suite.CipherSuite.{CipherSuite}
 use Rattle.krb_crypto.proofs.AllSuites.{seed_below}
 use Rattle.krb_crypto.proofs.SealedTexts.{seed_key_sized}
-use Rattle.krb_types.specs.RandomBytes.{subkey_seed}
-use Rattle.krb_types.specs.declared.data_types.authenticator.AuthenticatorInner.{AuthenticatorInner}
-use Rattle.krb_types.specs.declared.data_types.encryption_key.EncryptionKey.{EncryptionKey}
+use Rattle.krb_messages.specs.RandomBytes.{subkey_seed}
+use Rattle.krb_messages.specs.declared.data_types.authenticator.AuthenticatorInner.{AuthenticatorInner}
+use Rattle.krb_messages.specs.declared.data_types.encryption_key.EncryptionKey.{EncryptionKey}
 use Rattle.std.specs.Option.{option_map}
-use Rattle.krb_encrypted_data.specs.Keys.{suite_of}
-use Rattle.krb_encrypted_data.specs.Sealing.{encryption_key}
-use Rattle.krb_encrypted_data.proofs.KeySizes.{suite_of_sized}
+use Rattle.krb_tickets.specs.Keys.{suite_of}
+use Rattle.krb_tickets.specs.Sealing.{encryption_key}
+use Rattle.krb_tickets.proofs.KeySizes.{suite_of_sized}
 use Rattle.krb_client.specs.Requests.{nonce_of}
 use Rattle.krb_ap_requests.specs.declared.presented.Presented.{Presented}
 use Rattle.krb_service.specs.Admission.{AdmissionRecord, admission_of}
 use Rattle.krb_service.specs.ApReply.{reply_subkey}
-use Rattle.krb_types.specs.RandomBytes.{Random}
+use Rattle.krb_messages.specs.RandomBytes.{Random}
 use Rattle.gss_contexts.specs.Contexts.{ContextRecord, context_of, is_newer}
 use Rattle.gss_contexts.specs.Tokens.{is_set}
 use Rattle.gss_contexts.specs.declared.terms.ContextTerms.{ContextTerms}

@@ -2,7 +2,7 @@
 use Rattle.std.proofs.Common.{◌≡◌, ◌⊎◌, List, Option, Result, Ok, Err, refl, ap, inl, inr}
 use Rattle.picky_asn1.specs.Bytes.{Bytes}
 use Rattle.krb_time.specs.Units.{Micros}
-use Rattle.krb_types.specs.RandomBytes.{Random}
+use Rattle.krb_messages.specs.RandomBytes.{Random}
 use Rattle.krb_ap_requests.specs.Acceptable.{presented_choice}
 use Rattle.krb_ap_requests.specs.Presents.{Choice, Presents}
 use Rattle.krb_ap_requests.specs.declared.presented.Presented.{Presented}

@@ -1,6 +1,6 @@
 -- Two ends of one context stay so while they send messages.
 use Rattle.std.proofs.Common.{◌≡◌, ◌+◌, ◌<◌, ℕ, List, refl, ap, subst, sym, ◌∙◌, arith}
-use Rattle.byte_layouts.proofs.NumberLaws.{be64-again}
+use Rattle.byte_streams.proofs.NumberLaws.{be64-again}
 use Rattle.gss_contexts.specs.Contexts.{ContextRecord, last_number}
 use Rattle.gss_contexts.specs.Judging.{TakesMic}
 use Rattle.gss_contexts.specs.Tokens.{IsMicOf}

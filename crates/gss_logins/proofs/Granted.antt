@@ -8,13 +8,13 @@ use Rattle.picky_asn1.specs.Bytes.{Bytes}
 use Rattle.krb_time.specs.Units.{Micros}
 use Rattle.krb_crypto.specs.Suites.{cipher_key_size}
 use Rattle.krb_crypto.specs.declared.suite.CipherSuite.{CipherSuite}
-use Rattle.krb_types.specs.RandomBytes.{Random}
-use Rattle.krb_types.specs.declared.data_types.authenticator.AuthenticatorInner.{AuthenticatorInner}
-use Rattle.krb_types.specs.declared.data_types.enc_ticket_part.EncTicketPartInner.{EncTicketPartInner}
-use Rattle.krb_types.specs.declared.data_types.ticket.TicketInner.{TicketInner}
+use Rattle.krb_messages.specs.RandomBytes.{Random}
+use Rattle.krb_messages.specs.declared.data_types.authenticator.AuthenticatorInner.{AuthenticatorInner}
+use Rattle.krb_messages.specs.declared.data_types.enc_ticket_part.EncTicketPartInner.{EncTicketPartInner}
+use Rattle.krb_messages.specs.declared.data_types.ticket.TicketInner.{TicketInner}
 use Rattle.krb_messages.specs.Messages.{enc_ticket_part_tree}
-use Rattle.krb_encrypted_data.specs.Sealing.{Seals, encrypted_by, encryption_key}
-use Rattle.krb_kdc_requests.specs.declared.span.Span.{Span}
+use Rattle.krb_tickets.specs.Sealing.{Seals, encrypted_by, encryption_key}
+use Rattle.krb_kdc_exchanges.specs.declared.span.Span.{Span}
 use Rattle.krb_tickets.specs.Grant.{GrantRecord}
 use Rattle.krb_tickets.specs.Parts.{ticket_of, ticket_part}
 use Rattle.krb_tickets.specs.Sealed.{ticket_part_bytes}

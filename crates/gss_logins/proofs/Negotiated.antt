@@ -10,9 +10,9 @@ use Rattle.asn1_leaves.specs.ObjectIdentifier.{oid_content, subidentifier}
 use Rattle.x509_oids.specs.Identifiers as oids
 use Rattle.picky_asn1.specs.Bytes.{Bytes}
 use Rattle.krb_crypto.specs.Suites.{cipher_confounder_size}
-use Rattle.krb_types.specs.RandomBytes.{ap_reply_confounder}
+use Rattle.krb_messages.specs.RandomBytes.{ap_reply_confounder}
 use Rattle.decision_tables.specs.Tables.{done, refuse}
-use Rattle.gss_context_tokens.specs.declared.neg_token_targ.NegTokenTarg.{NegTokenTarg}
+use Rattle.gss_contexts.specs.declared.context_tokens.neg_token_targ.NegTokenTarg.{NegTokenTarg}
 use Rattle.gss_contexts.specs.Contexts.{is_newer}
 use Rattle.gss_acceptor.specs.Accepting.{AdmitRequest, Handles, carried, held, negotiated}
 use Rattle.gss_acceptor.specs.Answers.{neg_token_resp, state_field, supported_field}

@@ -10,13 +10,13 @@ use Rattle.picky_asn1.specs.BitString.{bit_of}
 use Rattle.krb_constants.specs.declared.ap_options.TheConstants.{MUTUAL_REQUIRED}
 use Rattle.krb_crypto.specs.declared.suite.CipherSuite.{CipherSuite}
 use Rattle.krb_crypto.specs.Suites.{cipher_confounder_size}
-use Rattle.krb_types.specs.RandomBytes.{ap_reply_confounder}
-use Rattle.krb_types.specs.declared.data_types.authenticator.AuthenticatorInner.{AuthenticatorInner}
-use Rattle.krb_types.specs.declared.data_types.encryption_key.EncryptionKey.{EncryptionKey}
+use Rattle.krb_messages.specs.RandomBytes.{ap_reply_confounder}
+use Rattle.krb_messages.specs.declared.data_types.authenticator.AuthenticatorInner.{AuthenticatorInner}
+use Rattle.krb_messages.specs.declared.data_types.encryption_key.EncryptionKey.{EncryptionKey}
 use Rattle.krb_crypto.specs.Keys.{KeyRecord}
-use Rattle.krb_encrypted_data.specs.Keys.{key_in, suite_of}
-use Rattle.krb_encrypted_data.specs.Sealing.{encryption_key}
-use Rattle.krb_encrypted_data.proofs.KeySizes.{suite_of_sized}
+use Rattle.krb_tickets.specs.Keys.{key_in, suite_of}
+use Rattle.krb_tickets.specs.Sealing.{encryption_key}
+use Rattle.krb_tickets.proofs.KeySizes.{suite_of_sized}
 use Rattle.krb_client.specs.Authenticators.{options_of}
 use Rattle.krb_client.specs.Requests.{nonce_of}
 use Rattle.krb_ap_requests.specs.declared.presented.Presented.{Presented}
@@ -26,7 +26,7 @@ use Rattle.krb_service.specs.Admission.{AdmissionRecord, admission_of}
 use Rattle.krb_service.specs.ApReply.{IsReplyBy, IsReplyOf, ap_rep_part_with, reply_number, reply_subkey}
 use Rattle.krb_service.specs.declared.reply.ReplyFields.{ReplyFields}
 use Rattle.krb_service.specs.declared.reply.ReplyFields.TheVariants.{TimeAlone, SubkeyAndNumber}
-use Rattle.krb_types.specs.declared.data_types.enc_ap_rep_part.EncApRepPartInner.{EncApRepPartInner}
+use Rattle.krb_messages.specs.declared.data_types.enc_ap_rep_part.EncApRepPartInner.{EncApRepPartInner}
 use Rattle.gss_contexts.specs.Contexts.{ContextRecord, is_newer}
 use Rattle.gss_contexts.specs.Tokens.{is_set}
 use Rattle.gss_contexts.specs.declared.side.Side.TheVariants.{Initiator}

@@ -5,9 +5,9 @@ use Rattle.asn1_der.specs.Tree.{IsWhole}
 use Rattle.asn1_leaves.specs.CharSets.{is_general_string}
 use Rattle.asn1_leaves.specs.declared.date.GeneralizedTime.{GeneralizedTime}
 use Rattle.picky_asn1.specs.Bytes.{Bytes}
-use Rattle.krb_types.specs.declared.data_types.authenticator.AuthenticatorInner.{AuthenticatorInner}
-use Rattle.krb_types.specs.declared.data_types.checksum.Checksum.{Checksum}
-use Rattle.krb_types.specs.declared.data_types.encryption_key.EncryptionKey.{EncryptionKey}
+use Rattle.krb_messages.specs.declared.data_types.authenticator.AuthenticatorInner.{AuthenticatorInner}
+use Rattle.krb_messages.specs.declared.data_types.checksum.Checksum.{Checksum}
+use Rattle.krb_messages.specs.declared.data_types.encryption_key.EncryptionKey.{EncryptionKey}
 use Rattle.krb_messages.specs.Messages.{authenticator_tree}
 use Rattle.krb_ap_requests.specs.Presents.{Presents}
 use Rattle.krb_client.specs.Authenticators.{authenticator_parts_of, authenticator_with}
@@ -15,8 +15,8 @@ use Rattle.krb_client.specs.Client.{ClientRecord}
 use Rattle.krb_client.specs.Requests.{nonce_of}
 use Rattle.krb_crypto.specs.Sealing.{seed_key_of}
 use Rattle.krb_crypto.specs.Suites.{cipher_seed_size}
-use Rattle.krb_types.specs.RandomBytes.{subkey_seed}
-use Rattle.krb_encrypted_data.specs.Sealing.{encryption_key}
+use Rattle.krb_messages.specs.RandomBytes.{subkey_seed}
+use Rattle.krb_tickets.specs.Sealing.{encryption_key}
 use Rattle.krb_logins.proofs.ChoicePresented.{presents_choice}
 use Rattle.krb_logins.proofs.WholePresented.{tagged_text}
 use Rattle.krb_logins.proofs.WholeRequests.{whole_texts}

@@ -5,12 +5,12 @@ use Rattle.asn1_der.specs.Tree.{IsWhole, der}
 use Rattle.asn1_leaves.specs.GeneralizedTime.{seconds_of}
 use Rattle.picky_asn1.specs.Bytes.{Bytes}
 use Rattle.krb_crypto.specs.declared.suite.CipherSuite.{CipherSuite}
-use Rattle.krb_types.specs.declared.data_types.authenticator.AuthenticatorInner.{AuthenticatorInner}
-use Rattle.krb_types.specs.declared.data_types.enc_ap_rep_part.EncApRepPartInner.{EncApRepPartInner}
+use Rattle.krb_messages.specs.declared.data_types.authenticator.AuthenticatorInner.{AuthenticatorInner}
+use Rattle.krb_messages.specs.declared.data_types.enc_ap_rep_part.EncApRepPartInner.{EncApRepPartInner}
 use Rattle.krb_messages.specs.Messages.{IsApRep, ap_rep_tree, enc_ap_rep_part_tree}
-use Rattle.krb_encrypted_data.specs.Sealing.{encrypted_by, sealed_opens}
+use Rattle.krb_tickets.specs.Sealing.{encrypted_by, sealed_opens}
 use Rattle.decision_tables.specs.Tables.{Table, done, refuse}
-use Rattle.krb_types.specs.RandomBytes.{Random}
+use Rattle.krb_messages.specs.RandomBytes.{Random}
 use Rattle.krb_service.specs.ApReply.{IsReplyOf, ap_rep_of, ap_rep_part, ap_rep_part_with}
 use Rattle.krb_service.specs.declared.reply.ReplyFields.{ReplyFields}
 use Rattle.krb_service.specs.declared.reply.ReplyFields.TheVariants.{TimeAlone, SubkeyAndNumber}

@@ -1,6 +1,6 @@
 -- Logins by GSS with what an honest login granted (RFC 4120, sections 3.1 to 3.3; RFC 4121, section 4.1).
 use Rattle.std.specs.Prelude.{◌≡◌, length, None}
-use Rattle.krb_types.specs.RandomBytes.{Random, AreEnoughForRequest}
+use Rattle.krb_messages.specs.RandomBytes.{Random, AreEnoughForRequest}
 use Rattle.krb_client.specs.Client.{ClientRecord, CredentialRecord}
 use Rattle.krb_service.specs.Seen.{IsWindow}
 use Rattle.krb_service.specs.Service.{ServiceRecord}

@@ -3,9 +3,9 @@ use Rattle.std.specs.Prelude.{max, List}
 use Rattle.picky_asn1.specs.Bytes.{Bytes}
 use Rattle.krb_time.specs.Units.{Micros}
 use Rattle.krb_crypto.specs.Suites.{cipher_confounder_size}
-use Rattle.krb_types.specs.RandomBytes.{Random, authenticator_confounder}
-use Rattle.krb_types.specs.declared.data_types.authenticator.AuthenticatorInner.{AuthenticatorInner}
-use Rattle.krb_types.specs.declared.data_types.enc_ticket_part.EncTicketPartInner.{EncTicketPartInner}
+use Rattle.krb_messages.specs.RandomBytes.{Random, authenticator_confounder}
+use Rattle.krb_messages.specs.declared.data_types.authenticator.AuthenticatorInner.{AuthenticatorInner}
+use Rattle.krb_messages.specs.declared.data_types.enc_ticket_part.EncTicketPartInner.{EncTicketPartInner}
 use Rattle.krb_ap_requests.specs.Presents.{Choice}
 use Rattle.krb_client.specs.Client.{ClientRecord, CredentialRecord}
 use Rattle.krb_service.specs.Pair.{PairRecord}

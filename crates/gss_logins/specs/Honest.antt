@@ -8,16 +8,16 @@ use Rattle.asn1_leaves.specs.CharSets.{is_general_string}
 use Rattle.picky_asn1.specs.Bytes.{Bytes}
 use Rattle.krb_constants.specs.declared.key_usages.TheConstants.{TICKET_REP}
 use Rattle.krb_crypto.specs.Suites.{cipher_key_size}
-use Rattle.krb_types.specs.contracts.data_types.ticket.TicketInnerTagged.TheImpl as ticket_impl
-use Rattle.krb_types.specs.declared.data_types.authenticator.AuthenticatorInner.{AuthenticatorInner}
-use Rattle.krb_types.specs.declared.data_types.enc_ticket_part.EncTicketPartInner.{EncTicketPartInner}
-use Rattle.krb_types.specs.declared.data_types.ticket.TicketInner.{TicketInner}
-use Rattle.krb_encrypted_data.specs.Sealing.{encryption_key}
+use Rattle.krb_messages.specs.contracts.data_types.ticket.TicketInnerTagged.TheImpl as ticket_impl
+use Rattle.krb_messages.specs.declared.data_types.authenticator.AuthenticatorInner.{AuthenticatorInner}
+use Rattle.krb_messages.specs.declared.data_types.enc_ticket_part.EncTicketPartInner.{EncTicketPartInner}
+use Rattle.krb_messages.specs.declared.data_types.ticket.TicketInner.{TicketInner}
+use Rattle.krb_tickets.specs.Sealing.{encryption_key}
 use Rattle.krb_messages.specs.Messages.{enc_ticket_part_tree}
 use Rattle.krb_ap_requests.specs.Presents.{SealsTo}
 use Rattle.krb_service.specs.Admissible.{IsAdmissible}
 use Rattle.krb_service.specs.Seen.{IsWindow}
-use Rattle.krb_types.specs.RandomBytes.{Random, AreEnoughForRequest, AreEnoughForSubkey}
+use Rattle.krb_messages.specs.RandomBytes.{Random, AreEnoughForRequest, AreEnoughForSubkey}
 use Rattle.gss_acceptor.specs.Checksum.{bound_by}
 use Rattle.gss_acceptor.specs.declared.checksum.InitialChecksum.{InitialChecksum}
 use Rattle.gss_acceptor.specs.declared.terms.AcceptorTerms.{AcceptorTerms}

@@ -1,6 +1,6 @@
 //! Whether a login by GSS is honest: the premises of its laws, judged by what the parties hold.
 ghost use Rattle.std.specs.Prelude.{IsTrue};
-ghost use Rattle.krb_types.specs.RandomBytes.{AreEnoughForRequest, AreEnoughForSubkey};
+ghost use Rattle.krb_messages.specs.RandomBytes.{AreEnoughForRequest, AreEnoughForSubkey};
 ghost use Rattle.krb_logins.specs.Honest.{AreEnough};
 ghost use Rattle.krb_logins.specs.Input.{held_by, login_of, realm_of};
 ghost use Rattle.gss_logins.specs.Granted.{IsHonestGssLogin};
@@ -8,7 +8,7 @@ ghost use Rattle.gss_logins.specs.Granted.{IsHonestGssLogin};
 use gss_acceptor::{AcceptorTerms, InitialChecksum};
 use gss_initiator::refusal_of;
 use krb_client::Client;
-use krb_kdc_requests::Call;
+use krb_kdc_exchanges::Call;
 use krb_logins::LoginInput;
 use krb_service::Service;
 use std::alloc::Global;

@@ -1,7 +1,7 @@
 //! The laws of both ends of a context. Each is a function that does nothing when it runs: its contract is the law.
 ghost use Rattle.std.specs.Prelude.{◌≡◌, ◌<◌, List, ℕ, Ok, Result};
 ghost use Rattle.krb_client.specs.Client.{ClientRecord, CredentialRecord};
-ghost use Rattle.krb_kdc_requests.specs.declared.span.Span.{Span};
+ghost use Rattle.krb_kdc_exchanges.specs.declared.span.Span.{Span};
 ghost use Rattle.krb_service.specs.Service.{ServiceRecord};
 ghost use Rattle.krb_logins.specs.Held.{IsFirstSpan, IsFurtherSpan, IsHeld, further_grant};
 ghost use Rattle.krb_logins.specs.Laws.{IsMet};
@@ -22,7 +22,7 @@ ghost use Rattle.gss_logins.specs.OneContext.{AreEnds, EndsInOneContext, IsMessa
 
 use gss_contexts::laws::{mic_is_taken, unwraps_to_its_message, wrap_is_taken};
 use krb_client::Means;
-use pkinit_interface::Pkinit;
+use krb_kdc_exchanges::Pkinit;
 
 /// An honest login whose first token is bare ends with two ends of one context, with the flags and channel bindings that the client chose,
 /// or memory runs out.

@@ -10,9 +10,9 @@ use Rattle.std.proofs.lemmas.Bool.Decides.{eqb_tells, nat_tests}
 use Rattle.hex.specs.Hex.{IsBytes, encode_lower, encode_with, lower_digits}
 use Rattle.hex.proofs.HexLemmas.{decode_of-encode_lower}
 use Rattle.picky_asn1.specs.Bytes.{Bytes}
-use Rattle.krb_types.specs.NameText.{name_text}
-use Rattle.krb_types.specs.NameReading.{are_ascii, components_in, is_ascii}
-use Rattle.krb_types.proofs.PrintedNames.{name-read}
+use Rattle.krb_messages.specs.NameText.{name_text}
+use Rattle.krb_messages.specs.NameReading.{are_ascii, components_in, is_ascii}
+use Rattle.krb_messages.proofs.PrintedNames.{name-read}
 use Rattle.krb_accounts.specs.Account.{AccountRecord}
 use Rattle.krb_accounts.specs.Names.{AreComponents, is_realm_name}
 use Rattle.krb_accounts.specs.Settings.{SettingsRecord}

@@ -12,7 +12,7 @@ use Rattle.hex.specs.Hex.{encode_lower, encode_with, lower_digits}
 use Rattle.krb_crypto.specs.declared.suite.CipherSuite.{CipherSuite}
 use Rattle.krb_crypto.specs.declared.suite.CipherSuite.TheVariants.{Aes128CtsHmacSha196, Aes256CtsHmacSha196, Des3CbcSha1Kd, Aes128CtsHmacSha256128, Aes256CtsHmacSha384192}
 use Rattle.krb_settings.specs.Fields.{suite_name}
-use Rattle.krb_types.specs.NameText.{component_text, escaped, name_text}
+use Rattle.krb_messages.specs.NameText.{component_text, escaped, name_text}
 
 -- neither a tab nor a line feed
 abbrev pub is_plain : ℕ → Bool

@@ -5,8 +5,8 @@ use Rattle.std.proofs.lemmas.Bool.Decides.{nat_tests}
 use Rattle.hex.specs.Hex.{IsBytes, decode_of}
 use Rattle.hex.proofs.HexLemmas.{decode_of-ok}
 use Rattle.picky_asn1.specs.Bytes.{Bytes}
-use Rattle.krb_types.specs.NameReading.{components_in, is_ascii}
-use Rattle.krb_types.specs.declared.name_reading.NameTextFault.{NameTextFault}
+use Rattle.krb_messages.specs.NameReading.{components_in, is_ascii}
+use Rattle.krb_messages.specs.declared.name_reading.NameTextFault.{NameTextFault}
 use Rattle.krb_accounts.specs.Account.{AccountRecord}
 use Rattle.krb_accounts.specs.Names.{AreComponents, are_components}
 use Rattle.krb_crypto.specs.Suites.{cipher_key_size}

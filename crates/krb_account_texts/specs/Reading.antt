@@ -4,8 +4,8 @@ use Rattle.std.specs.List.{find, list_all, slice_split, starts_with}
 use Rattle.std.specs.Cmp.Lexicographic.{pointwise}
 use Rattle.hex.specs.Hex.{decode_of}
 use Rattle.picky_asn1.specs.Bytes.{Bytes}
-use Rattle.krb_types.specs.NameReading.{components_in, is_ascii}
-use Rattle.krb_types.specs.declared.name_reading.NameTextFault.{NameTextFault}
+use Rattle.krb_messages.specs.NameReading.{components_in, is_ascii}
+use Rattle.krb_messages.specs.declared.name_reading.NameTextFault.{NameTextFault}
 use Rattle.krb_accounts.specs.Names.{are_components, is_realm_name}
 use Rattle.krb_accounts.specs.Settings.{SettingsRecord}
 use Rattle.krb_accounts.specs.declared.policy.Policy.{Policy}

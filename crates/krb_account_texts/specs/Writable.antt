@@ -7,7 +7,7 @@ use Rattle.krb_crypto.specs.Suites.{cipher_key_size}
 use Rattle.krb_accounts.specs.Account.{AccountRecord}
 use Rattle.krb_accounts.specs.Names.{AreComponents, IsRealmName}
 use Rattle.krb_accounts.specs.Settings.{AreSettings, SettingsRecord}
-use Rattle.krb_types.specs.NameReading.{is_ascii}
+use Rattle.krb_messages.specs.NameReading.{is_ascii}
 use Rattle.krb_account_texts.specs.Lines.{WrittenLine, comment, realm, account}
 use Rattle.krb_account_texts.specs.Reading.{is_disabled, is_printed}
 

@@ -7,7 +7,7 @@ ghost use Rattle.hex.specs.Hex.{decode_of};
 ghost use Rattle.krb_accounts.specs.Names.{parts};
 ghost use Rattle.krb_crypto.specs.Suites.{cipher_suites};
 ghost use Rattle.krb_settings.specs.Fields.{suite_name};
-ghost use Rattle.krb_types.specs.NameReading.{is_ascii};
+ghost use Rattle.krb_messages.specs.NameReading.{is_ascii};
 ghost use Rattle.krb_account_texts.specs.Lines.{WrittenLine};
 ghost use Rattle.krb_account_texts.specs.Reading.{digits_behind, is_printed, key_in, judged_name, kvno_in, name_in, next_number, number_in, octets_told, pkinit_in, realm_name_in, salt_in, seconds_in, settings_of, sized_key, suite_in};
 ghost use Rattle.krb_account_texts.specs.Steps.{IsAside};
@@ -16,8 +16,8 @@ use crate::fault::LineFault;
 use hex::FromHexError;
 use krb_accounts::{RealmRefusal, Settings, components_of, is_realm_name, realm_name_of};
 use krb_crypto::{CipherSuite, Key};
+use krb_messages::{NameTextFault, components_of_text};
 use krb_settings::suite_name;
-use krb_types::{NameTextFault, components_of_text};
 use picky_asn1::wrapper::{GeneralStringAsn1, OctetStringAsn1};
 use std::alloc::Global;
 

@@ -3,7 +3,7 @@ ghost use Rattle.std.specs.Prelude.{◌≡◌, IfOk, pos};
 
 use krb_accounts::{Account, Settings};
 use krb_constants::types::NT_PRINCIPAL;
-use krb_types::data_types::PrincipalName;
+use krb_messages::data_types::PrincipalName;
 use picky_asn1::wrapper::{Asn1SequenceOf, GeneralStringAsn1, IntegerAsn1, OctetStringAsn1};
 use picky_asn1_der::ExplicitContextTag;
 use std::alloc::{AllocError, Global};

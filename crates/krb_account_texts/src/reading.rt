@@ -14,7 +14,7 @@ use crate::fields::{
 };
 use crate::line::{AccountLine, Line, RealmLine, principal_name};
 use krb_accounts::{Account, NO_POLICY, Policy};
-use krb_types::data_types::PrincipalName;
+use krb_messages::data_types::PrincipalName;
 use std::alloc::{AllocError, Global};
 
 /// The lines that a text writes. It is refused with the number of the first line that is none, and with what was expected there.

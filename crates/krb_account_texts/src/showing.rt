@@ -1,13 +1,13 @@
 //! Writing a text of accounts.
 ghost use Rattle.std.specs.Prelude.{◌≡◌, ◌∷◌, ◌++◌, [], map, string_bytes, IfOk, OnOk};
 ghost use Rattle.std.specs.Option.{option_map};
-ghost use Rattle.krb_types.specs.NameText.{name_text};
+ghost use Rattle.krb_messages.specs.NameText.{name_text};
 ghost use Rattle.krb_account_texts.specs.Lines.{account_fields, account_text, further_text, guarded, line_text, realm_text, salt_text, text_of, written};
 
 use crate::line::{AccountLine, Line, RealmLine};
 use crate::reading::is_comment;
+use krb_messages::data_types::PrincipalName;
 use krb_settings::suite_name;
-use krb_types::data_types::PrincipalName;
 use picky_asn1::wrapper::OctetStringAsn1;
 use std::alloc::{AllocError, Global};
 

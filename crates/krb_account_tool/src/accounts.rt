@@ -11,9 +11,9 @@ use krb_account_texts::{
 use krb_accounts::{Account, Policy, Settings, USUAL_LIFETIME, USUAL_SKEW, realm_name_of};
 use krb_commands::{FileKind, Stop, begin, begin_first, refused};
 use krb_crypto::{CipherSuite, Key};
+use krb_messages::data_types::PrincipalName;
+use krb_messages::krbtgt_of;
 use krb_settings::Secret;
-use krb_types::data_types::PrincipalName;
-use krb_types::krbtgt_of;
 use picky_asn1::wrapper::GeneralStringAsn1;
 use std::alloc::{AllocError, Global};
 

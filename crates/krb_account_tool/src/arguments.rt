@@ -3,7 +3,7 @@
 use krb_account_texts::{LineFault, read_name, suite_named};
 use krb_commands::{Stop, failed, refused};
 use krb_crypto::CipherSuite;
-use krb_types::data_types::PrincipalName;
+use krb_messages::data_types::PrincipalName;
 use std::alloc::Global;
 
 /// Where a key comes from.

@@ -2,13 +2,12 @@
 
 use crate::arguments::expected;
 use crate::texts::{finish_text, lines_of, unnamed_realm};
-use key_files::{FileFault, certificate_in, private_key_in};
-use krb_account_files::PKINIT_ROOM;
 use krb_account_texts::{Line, certify as put_certified};
 use krb_commands::{FileKind, Stop, begin, octets_of, refused};
-use krb_file_realms::{PkinitFault, means_in};
+use krb_realm_files::{PKINIT_ROOM, PkinitFault, means_in};
 use picky_asn1::wrapper::OctetStringAsn1;
 use std::alloc::Global;
+use x509_certificates::{FileFault, certificate_in, private_key_in};
 use x509_codec::to_vec;
 
 /// What `certify` expects of the files of certificates.

@@ -6,8 +6,8 @@ use crate::texts::finish;
 use crate::warner::Warner;
 use crate::warnings::Stream;
 use cdb::{FileAt, Record, answers_as, find};
-use krb_account_files::{REALM_KEY, RECORD_ROOM, RealmParameters, record_of_realm, write_records};
 use krb_commands::{FileKind, Stop, begin, octets_of, refused};
+use krb_realm_files::{REALM_KEY, RECORD_ROOM, RealmParameters, record_of_realm, write_records};
 use std::alloc::Global;
 use std::fs;
 

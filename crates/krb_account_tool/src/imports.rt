@@ -10,8 +10,10 @@ use krb_accounts::{Account, RealmRefusal, Settings, components_of, realm_name_of
 use krb_commands::{FileKind, Stop, begin_first, octets_of, printable_of, refused};
 use krb_crypto::{CipherSuite, Key};
 use krb_programs::say;
-use krb_settings::{AccountSettings, RealmSettings, Secret, SettingsFault, read_settings_file};
-use krb_settings_check::{Place, Rule, explain, explain_rule, warnings_of};
+use krb_settings::{
+    AccountSettings, Place, RealmSettings, Rule, Secret, SettingsFault, explain, explain_rule,
+    read_settings_file, warnings_of,
+};
 use picky_asn1::wrapper::GeneralStringAsn1;
 use std::alloc::Global;
 

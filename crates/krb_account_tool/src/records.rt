@@ -5,11 +5,11 @@ use crate::texts::{stop_of, text_in};
 use crate::warner::Warner;
 use crate::warnings::is_service;
 use cdb::{Record, WriteFault};
-use krb_account_files::{PKINIT_ROOM, RealmParameters, record_of_account};
 use krb_account_texts::{
     AccountLine, Line, LineFault, RealmLine, TextFault, check_next, read_line,
 };
 use krb_commands::{FileKind, Stop, octets_of, refused};
+use krb_realm_files::{PKINIT_ROOM, RealmParameters, record_of_account};
 use picky_asn1::wrapper::GeneralStringAsn1;
 use std::alloc::Global;
 

@@ -2,14 +2,13 @@
 
 use crate::warnings::{RealmKey, Stream, is_service, say, warn_of_account, warn_of_realm};
 use cdb::Record;
-use krb_account_files::ACCOUNT_HEAD;
 use krb_account_texts::{AccountLine, RealmLine, principal_name};
 use krb_accounts::components_of;
 use krb_commands::Stop;
 use krb_crypto::CipherSuite;
-use krb_settings::Secret;
-use krb_settings_check::Warning;
-use krb_types::data_types::PrincipalName;
+use krb_messages::data_types::PrincipalName;
+use krb_realm_files::ACCOUNT_HEAD;
+use krb_settings::{Secret, Warning};
 use std::alloc::{AllocError, Global};
 use std::cmp::Ordering;
 

@@ -6,10 +6,9 @@ use crate::texts::account_among;
 use krb_account_texts::{Line, RealmLine, is_krbtgt};
 use krb_commands::{Stop, print_line, printable_of};
 use krb_crypto::CipherSuite;
-use krb_settings::{AccountSettings, RealmSettings, Secret};
-use krb_settings_check::warnings_of;
-use krb_types::data_types::PrincipalName;
-use krb_types::krbtgt_of;
+use krb_messages::data_types::PrincipalName;
+use krb_messages::krbtgt_of;
+use krb_settings::{AccountSettings, RealmSettings, Secret, warnings_of};
 use std::alloc::{AllocError, Global};
 use std::fmt::Display;
 

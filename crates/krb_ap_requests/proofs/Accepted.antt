@@ -9,16 +9,16 @@ use Rattle.asn1_leaves.specs.GeneralizedTime.{seconds_of}
 use Rattle.krb_crypto.specs.Sealing.{IsSealedBy}
 use Rattle.krb_crypto.specs.Suites.{cipher_key_size, cipher_number}
 use Rattle.krb_crypto.specs.declared.suite.CipherSuite.{CipherSuite}
-use Rattle.krb_types.specs.declared.data_types.authenticator.AuthenticatorInner.{AuthenticatorInner}
-use Rattle.krb_types.specs.declared.data_types.encrypted_data.EncryptedData.{EncryptedData}
-use Rattle.krb_types.specs.declared.data_types.encryption_key.EncryptionKey.{EncryptionKey}
-use Rattle.krb_types.specs.declared.data_types.enc_ticket_part.EncTicketPartInner.{EncTicketPartInner}
-use Rattle.krb_encrypted_data.specs.Keys.{suite_of}
-use Rattle.krb_encrypted_data.proofs.KeySizes.{suite_sized}
-use Rattle.krb_types.specs.Names.{components, is_same_name, is_same_realm}
+use Rattle.krb_messages.specs.declared.data_types.authenticator.AuthenticatorInner.{AuthenticatorInner}
+use Rattle.krb_messages.specs.declared.data_types.encrypted_data.EncryptedData.{EncryptedData}
+use Rattle.krb_messages.specs.declared.data_types.encryption_key.EncryptionKey.{EncryptionKey}
+use Rattle.krb_messages.specs.declared.data_types.enc_ticket_part.EncTicketPartInner.{EncTicketPartInner}
+use Rattle.krb_tickets.specs.Keys.{suite_of}
+use Rattle.krb_tickets.proofs.KeySizes.{suite_sized}
+use Rattle.krb_messages.specs.Names.{components, is_same_name, is_same_realm}
 use Rattle.picky_asn1.specs.Numbers.{is_number}
 use Rattle.decision_tables.specs.Tables.{Table, and_then, done, need, refuse}
-use Rattle.krb_encrypted_data.specs.Sealed.{IsSealedIn}
+use Rattle.krb_tickets.specs.SealedData.{IsSealedIn}
 use Rattle.krb_time.specs.Times.{moment_at}
 use Rattle.krb_ap_requests.specs.Acceptable.{IsAcceptable, presented_of}
 use Rattle.krb_ap_requests.specs.ApTable.{for_service, ap_fields, is_early, is_late, is_of_client, kvno_fits, opened, presented, authenticator_time, valid_authenticator, valid_part}

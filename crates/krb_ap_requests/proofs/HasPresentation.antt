@@ -3,8 +3,8 @@ use Rattle.std.proofs.Common.{◌≡◌, ℕ, List, refl}
 use Rattle.std.specs.Prelude.{ℤ}
 use Rattle.asn1_der.specs.Tree.{Tree, der}
 use Rattle.krb_crypto.proofs.SealedTexts.{has_sealed}
-use Rattle.krb_types.specs.declared.data_types.authenticator.AuthenticatorInner.{AuthenticatorInner}
-use Rattle.krb_types.specs.declared.data_types.enc_ticket_part.EncTicketPartInner.{EncTicketPartInner}
+use Rattle.krb_messages.specs.declared.data_types.authenticator.AuthenticatorInner.{AuthenticatorInner}
+use Rattle.krb_messages.specs.declared.data_types.enc_ticket_part.EncTicketPartInner.{EncTicketPartInner}
 use Rattle.krb_messages.specs.Messages.{ap_req_tree, authenticator_tree, enc_ticket_part_tree}
 use Rattle.krb_ap_requests.specs.Fitting.{FitsSuite, IsFitting}
 use Rattle.krb_ap_requests.specs.Presents.{Choice, Presents, SealsTo, request_of}

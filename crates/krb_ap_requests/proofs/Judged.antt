@@ -1,13 +1,13 @@
 -- What the parts of a table give, the table gives.
 use Rattle.std.proofs.Common.{◌≡◌, ℕ, List, Result, Ok, Err, ap, refl, sym, subst, inl, inr}
 use Rattle.krb_crypto.specs.declared.suite.CipherSuite.{CipherSuite}
-use Rattle.krb_types.specs.declared.data_types.authenticator.AuthenticatorInner.{AuthenticatorInner}
-use Rattle.krb_types.specs.declared.data_types.encrypted_data.EncryptedData.{EncryptedData}
-use Rattle.krb_types.specs.declared.data_types.enc_ticket_part.EncTicketPartInner.{EncTicketPartInner}
+use Rattle.krb_messages.specs.declared.data_types.authenticator.AuthenticatorInner.{AuthenticatorInner}
+use Rattle.krb_messages.specs.declared.data_types.encrypted_data.EncryptedData.{EncryptedData}
+use Rattle.krb_messages.specs.declared.data_types.enc_ticket_part.EncTicketPartInner.{EncTicketPartInner}
 use Rattle.krb_messages.specs.declared.messages.ap_req.ApReqInner.{ApReqInner}
-use Rattle.krb_types.specs.Refusals.{IsJudged}
-use Rattle.krb_types.specs.declared.refusal.Refusal.{Refusal}
-use Rattle.krb_types.specs.declared.refusal.Refusal.TheVariants.{Krb, Memory}
+use Rattle.krb_messages.specs.Refusals.{IsJudged}
+use Rattle.krb_messages.specs.declared.refusal.Refusal.{Refusal}
+use Rattle.krb_messages.specs.declared.refusal.Refusal.TheVariants.{Krb, Memory}
 use Rattle.krb_ap_requests.specs.ApTable.{for_service, authenticated, opened, opened_part, presented, presented_with, timely, authenticator_time, valid_authenticator, valid_part}
 use Rattle.krb_ap_requests.specs.Entry.{EntryRecord}
 use Rattle.krb_messages.specs.Messages.{IsApReq}

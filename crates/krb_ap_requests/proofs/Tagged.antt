@@ -2,8 +2,8 @@
 use Rattle.std.proofs.Common.{◌≡◌, ℕ, List, subst}
 use Rattle.asn1_der.specs.Tree.{Tree, IsWhole, der}
 use Rattle.krb_crypto.specs.declared.suite.CipherSuite.{CipherSuite}
-use Rattle.krb_types.specs.declared.data_types.encrypted_data.EncryptedData.{EncryptedData}
-use Rattle.krb_encrypted_data.specs.Sealed.{IsSealedIn}
+use Rattle.krb_messages.specs.declared.data_types.encrypted_data.EncryptedData.{EncryptedData}
+use Rattle.krb_tickets.specs.SealedData.{IsSealedIn}
 
 pub same_sealed : {T U : Type 0} (t : T → Tree) (u : U → Tree) (suite : CipherSuite) (key : List ℕ) (usage : ℕ) (encrypted : EncryptedData) (v : T) (w : U) → t v ≡ u w
     → IsSealedIn {T = T} t suite key usage encrypted v → IsSealedIn {T = U} u suite key usage encrypted w

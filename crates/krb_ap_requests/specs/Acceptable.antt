@@ -5,8 +5,8 @@ use Rattle.picky_asn1.specs.BitString.{bit_of}
 use Rattle.asn1_leaves.specs.GeneralizedTime.{seconds_of}
 use Rattle.krb_crypto.specs.declared.suite.CipherSuite.{CipherSuite}
 use Rattle.krb_crypto.specs.Suites.{cipher_key_size, cipher_number}
-use Rattle.krb_encrypted_data.specs.Keys.{suite_of}
-use Rattle.krb_types.specs.Names.{components, is_same_name, is_same_realm}
+use Rattle.krb_tickets.specs.Keys.{suite_of}
+use Rattle.krb_messages.specs.Names.{components, is_same_name, is_same_realm}
 use Rattle.krb_constants.specs.declared.ap_options.TheConstants.{MUTUAL_REQUIRED, USE_SESSION_KEY}
 use Rattle.krb_constants.specs.declared.types.TheConstants.{AP_REQ_MSG_TYPE, KERBEROS_VERSION}
 use Rattle.picky_asn1.specs.Numbers.{is_number}

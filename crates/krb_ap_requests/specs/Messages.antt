@@ -4,11 +4,11 @@ use Rattle.std.specs.Int.{cast_unsigned, w32}
 use Rattle.picky_asn1.specs.Bytes.{Bytes}
 use Rattle.krb_constants.specs.declared.key_usages.TheConstants.{TICKET_REP}
 use Rattle.krb_crypto.specs.declared.suite.CipherSuite.{CipherSuite}
-use Rattle.krb_types.specs.declared.data_types.encrypted_data.EncryptedData.{EncryptedData}
-use Rattle.krb_types.specs.declared.data_types.enc_ticket_part.EncTicketPartInner.{EncTicketPartInner}
-use Rattle.krb_types.specs.declared.data_types.authenticator.AuthenticatorInner.{AuthenticatorInner}
+use Rattle.krb_messages.specs.declared.data_types.encrypted_data.EncryptedData.{EncryptedData}
+use Rattle.krb_messages.specs.declared.data_types.enc_ticket_part.EncTicketPartInner.{EncTicketPartInner}
+use Rattle.krb_messages.specs.declared.data_types.authenticator.AuthenticatorInner.{AuthenticatorInner}
 use Rattle.decision_tables.specs.One.{IsSole}
-use Rattle.krb_encrypted_data.specs.Sealed.{IsSealedIn, sole_sealed}
+use Rattle.krb_tickets.specs.SealedData.{IsSealedIn, sole_sealed}
 use Rattle.krb_messages.specs.Messages.{authenticator-injective, authenticator_tree, enc_ticket_part-injective, enc_ticket_part_tree}
 
 -- The ticket's enc-part is encrypted under the service's key, for key usage 2 (RFC 4120, sections 5.3 and 7.5.1). Test: `wrong usage` of

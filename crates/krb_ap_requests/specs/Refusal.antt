@@ -1,7 +1,7 @@
 -- How a service refuses a request.
 use Rattle.std.specs.Prelude.{ℕ}
-use Rattle.krb_types.specs.declared.refusal.Refusal.{Refusal}
-use Rattle.krb_types.specs.declared.refusal.Refusal.TheVariants as judging
+use Rattle.krb_messages.specs.declared.refusal.Refusal.{Refusal}
+use Rattle.krb_messages.specs.declared.refusal.Refusal.TheVariants as judging
 use Rattle.krb_ap_requests.specs.declared.refusal.AdmitRefusal.{AdmitRefusal}
 use Rattle.krb_ap_requests.specs.declared.refusal.AdmitRefusal.TheVariants.{Unreadable, Krb, Memory}
 

@@ -1,28 +1,28 @@
 //! Judging a request: the rows of the table, part by part.
 ghost use Rattle.std.specs.Prelude.{◌≡◌};
 ghost use Rattle.krb_crypto.specs.Suites.{cipher_number};
-ghost use Rattle.krb_types.specs.Names.{components};
-ghost use Rattle.krb_types.specs.Refusals.{IsJudged};
+ghost use Rattle.krb_messages.specs.Names.{components};
+ghost use Rattle.krb_messages.specs.Refusals.{IsJudged};
 ghost use Rattle.krb_ap_requests.specs.ApTable.{for_service, ap_fields, authenticated, enc_part_in, is_early, is_for, is_late, is_of_client, is_version_5, kvno_fits, opened, opened_part, presented_with, starttime_of, ticket_in, timely, authenticator_time, valid_authenticator, valid_part};
 ghost use Rattle.std.specs.Int.{cast_unsigned, w32};
 ghost use Rattle.krb_time.specs.Skew.{IsWithinDay};
 
 use crate::messages::{open_authenticator, open_part};
 use crate::presented::{Authenticated, Presented};
+use decision_tables::if_passed;
 use krb_constants::types::{AP_REQ_MSG_TYPE, KERBEROS_VERSION};
 use krb_constants::{ap_options, error_codes, key_usages, ticket_flags};
 use krb_crypto::{CipherSuite, Key};
-use krb_encrypted_data::key_of;
-use krb_messages::messages::ApReqInner;
-use krb_time::{Moment, moment_at};
-use krb_types::data_types::{
+use krb_messages::data_types::{
     AuthenticatorInner, EncTicketPartInner, EncryptedData, EncryptionKey, TicketInner,
 };
-use krb_types::{Refusal, is_same_name, is_same_realm};
+use krb_messages::messages::ApReqInner;
+use krb_messages::{Refusal, is_same_name, is_same_realm};
+use krb_tickets::key_of;
+use krb_time::{Moment, moment_at};
 use picky_asn1::date::GeneralizedTime;
 use picky_asn1::is_number;
 use picky_asn1::wrapper::GeneralStringAsn1;
-use result_pairs::if_passed;
 use std::alloc::Global;
 
 // Returns the ticket of a request (RFC 4120, section 5.5.1).

@@ -7,11 +7,11 @@ ghost use Rattle.krb_ap_requests.specs.Messages.{IsAuthenticator, IsTicketPart};
 
 use krb_constants::key_usages;
 use krb_crypto::Key;
-use krb_encrypted_data::open_sealed;
-use krb_messages::messages::{ApReq, ApReqInner};
-use krb_types::data_types::{
+use krb_messages::data_types::{
     Authenticator, AuthenticatorInner, EncTicketPart, EncTicketPartInner, EncryptedData,
 };
+use krb_messages::messages::{ApReq, ApReqInner};
+use krb_tickets::open_sealed;
 use picky_asn1_der::read_whole;
 use std::alloc::{AllocError, Global};
 

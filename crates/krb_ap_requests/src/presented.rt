@@ -1,7 +1,7 @@
 //! What a request presents.
 use krb_crypto::CipherSuite;
+use krb_messages::data_types::{AuthenticatorInner, EncTicketPartInner};
 use krb_time::Moment;
-use krb_types::data_types::{AuthenticatorInner, EncTicketPartInner};
 
 /// An authenticator that was opened (RFC 4120, section 5.5.1).
 #[derive(Drop)]

@@ -3,7 +3,7 @@ ghost use Rattle.std.specs.Prelude.{◌≡◌};
 ghost use Rattle.krb_ap_requests.specs.declared.refusal.AdmitRefusal.TheVariants.{Memory};
 
 use krb_constants::error_names::ErrorCode;
-use krb_types::Refusal;
+use krb_messages::Refusal;
 use std::alloc::AllocError;
 use thiserror::Error;
 

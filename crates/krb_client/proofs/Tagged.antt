@@ -2,8 +2,8 @@
 use Rattle.std.proofs.Common.{ℕ, List}
 use Rattle.asn1_der.specs.Tree.{Tree}
 use Rattle.krb_crypto.specs.declared.suite.CipherSuite.{CipherSuite}
-use Rattle.krb_types.specs.declared.data_types.encrypted_data.EncryptedData.{EncryptedData}
-use Rattle.krb_encrypted_data.specs.Sealed.{IsSealedIn}
+use Rattle.krb_messages.specs.declared.data_types.encrypted_data.EncryptedData.{EncryptedData}
+use Rattle.krb_tickets.specs.SealedData.{IsSealedIn}
 
 pub sealed-inside : {T V : Type 0} (inner : T → V) (tree : V → Tree) (suite : CipherSuite) (key : List ℕ) (usage : ℕ) (sealed : EncryptedData) (value : T)
     → IsSealedIn {T = T} (λ v. tree (inner v)) suite key usage sealed value → IsSealedIn {T = V} tree suite key usage sealed (inner value)

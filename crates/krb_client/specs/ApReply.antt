@@ -4,11 +4,11 @@ use Rattle.std.specs.Int.{cast_unsigned, w32}
 use Rattle.krb_constants.specs.declared.types.TheConstants.{AP_REP_MSG_TYPE}
 use Rattle.krb_time.specs.Units.{Micros}
 use Rattle.krb_constants.specs.declared.key_usages.TheConstants.{AP_REP_ENC}
-use Rattle.krb_types.specs.declared.data_types.enc_ap_rep_part.EncApRepPartInner.{EncApRepPartInner}
-use Rattle.krb_types.specs.declared.data_types.encrypted_data.EncryptedData.{EncryptedData}
+use Rattle.krb_messages.specs.declared.data_types.enc_ap_rep_part.EncApRepPartInner.{EncApRepPartInner}
+use Rattle.krb_messages.specs.declared.data_types.encrypted_data.EncryptedData.{EncryptedData}
 use Rattle.krb_messages.specs.declared.messages.ap_rep.ApRepInner.{ApRepInner}
 use Rattle.krb_messages.specs.Messages.{IsApRep, enc_ap_rep_part-injective, enc_ap_rep_part_tree, sole_ap_rep}
-use Rattle.krb_encrypted_data.specs.Sealed.{IsSealedIn, sole_sealed}
+use Rattle.krb_tickets.specs.SealedData.{IsSealedIn, sole_sealed}
 use Rattle.asn1_leaves.specs.GeneralizedTime.{seconds_of}
 use Rattle.picky_asn1.specs.Numbers.{is_number}
 use Rattle.picky_asn1.specs.Bytes.{Bytes}

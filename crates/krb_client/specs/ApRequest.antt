@@ -8,13 +8,13 @@ use Rattle.krb_constants.specs.declared.key_usages.TheConstants.{AP_REQ_AUTHENTI
 use Rattle.krb_crypto.specs.declared.suite.CipherSuite.{CipherSuite}
 use Rattle.krb_crypto.specs.Sealing.{seed_key_of}
 use Rattle.krb_crypto.specs.Suites.{cipher_confounder_size, cipher_seed_size}
-use Rattle.krb_types.specs.declared.data_types.authenticator.AuthenticatorInner.{AuthenticatorInner}
-use Rattle.krb_types.specs.declared.data_types.encryption_key.EncryptionKey.{EncryptionKey}
-use Rattle.krb_types.specs.RandomBytes.{Random, authenticator_confounder, subkey_seed}
+use Rattle.krb_messages.specs.declared.data_types.authenticator.AuthenticatorInner.{AuthenticatorInner}
+use Rattle.krb_messages.specs.declared.data_types.encryption_key.EncryptionKey.{EncryptionKey}
+use Rattle.krb_messages.specs.RandomBytes.{Random, authenticator_confounder, subkey_seed}
 use Rattle.krb_client.specs.Asked.{ApAskedRecord}
 use Rattle.krb_client.specs.Authenticators.{IsApRequest, IsAuthenticatorOf, sole_presented, sole_authenticator_of}
 use Rattle.krb_client.specs.Client.{ClientRecord, CredentialRecord}
-use Rattle.krb_encrypted_data.specs.Sealing.{encryption_key}
+use Rattle.krb_tickets.specs.Sealing.{encryption_key}
 
 -- the subkey, where one is asked for: that of a seed, which are random bytes from the thirty-third on
 abbrev pub chosen_subkey : Bool → CipherSuite → Random → Option Bytes

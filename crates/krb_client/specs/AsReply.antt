@@ -6,11 +6,11 @@ use Rattle.krb_constants.specs.declared.key_usages.TheConstants.{AS_REP_ENC}
 use Rattle.krb_crypto.specs.Keys.{KeyRecord}
 use Rattle.krb_crypto.specs.declared.suite.CipherSuite.{CipherSuite}
 use Rattle.picky_asn1.specs.Bytes.{Bytes}
-use Rattle.krb_types.specs.declared.data_types.encrypted_data.EncryptedData.{EncryptedData}
+use Rattle.krb_messages.specs.declared.data_types.encrypted_data.EncryptedData.{EncryptedData}
 use Rattle.krb_messages.specs.declared.messages.enc_kdc_rep_part.EncKdcRepPart.{EncKdcRepPart}
 use Rattle.krb_messages.specs.declared.messages.kdc_rep.KdcRep.{KdcRep}
 use Rattle.krb_messages.specs.Messages.{IsAsRep, enc_as_rep_part-injective, enc_as_rep_part_tree, sole_as_rep}
-use Rattle.krb_encrypted_data.specs.Sealed.{IsSealedIn, sole_sealed}
+use Rattle.krb_tickets.specs.SealedData.{IsSealedIn, sole_sealed}
 use Rattle.decision_tables.specs.One.{IsSole}
 use Rattle.decision_tables.specs.Tables.{Table, and_then, ask, done, refuse}
 use Rattle.krb_client.specs.Asked.{AsAskedRecord}

@@ -3,8 +3,8 @@ use Rattle.std.specs.Prelude.{ℕ, List, Option}
 use Rattle.krb_time.specs.Units.{Micros}
 use Rattle.picky_asn1.specs.Bytes.{Bytes}
 use Rattle.krb_crypto.specs.declared.suite.CipherSuite.{CipherSuite}
-use Rattle.krb_types.specs.declared.random_bytes.TheConstants.{AGREEMENT_SIZE, CLIENT_AGREEMENT}
-use Rattle.krb_types.specs.RandomBytes.{Random, random_part}
+use Rattle.krb_messages.specs.declared.random_bytes.TheConstants.{AGREEMENT_SIZE, CLIENT_AGREEMENT}
+use Rattle.krb_messages.specs.RandomBytes.{Random, random_part}
 
 -- the random bytes of the client's agreement among those of an AS request (RFC 4556, section 3.2.1)
 abbrev pub agreement_part : Random → Bytes

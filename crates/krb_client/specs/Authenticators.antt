@@ -9,18 +9,18 @@ use Rattle.picky_asn1.specs.Bytes.{Bytes}
 use Rattle.asn1_leaves.specs.declared.date.GeneralizedTime.{GeneralizedTime}
 use Rattle.krb_constants.specs.declared.ap_options.TheConstants.{MUTUAL_REQUIRED_MASK}
 use Rattle.krb_constants.specs.declared.types.TheConstants.{AP_REQ_MSG_TYPE, KERBEROS_VERSION, NT_PRINCIPAL}
-use Rattle.krb_types.specs.declared.data_types.authenticator.AuthenticatorInner.{AuthenticatorInner}
-use Rattle.krb_types.specs.declared.data_types.checksum.Checksum.{Checksum}
-use Rattle.krb_types.specs.declared.data_types.encrypted_data.EncryptedData.{EncryptedData}
-use Rattle.krb_types.specs.declared.data_types.encryption_key.EncryptionKey.{EncryptionKey}
-use Rattle.krb_types.specs.declared.data_types.ticket.TicketInner.{TicketInner}
+use Rattle.krb_messages.specs.declared.data_types.authenticator.AuthenticatorInner.{AuthenticatorInner}
+use Rattle.krb_messages.specs.declared.data_types.checksum.Checksum.{Checksum}
+use Rattle.krb_messages.specs.declared.data_types.encrypted_data.EncryptedData.{EncryptedData}
+use Rattle.krb_messages.specs.declared.data_types.encryption_key.EncryptionKey.{EncryptionKey}
+use Rattle.krb_messages.specs.declared.data_types.ticket.TicketInner.{TicketInner}
 use Rattle.krb_messages.specs.declared.messages.ap_req.ApReqInner.{ApReqInner}
 use Rattle.krb_client.specs.Client.{ClientRecord, CredentialRecord}
 use Rattle.krb_client.specs.declared.authenticator.AuthenticatorParts.{AuthenticatorParts}
 use Rattle.krb_client.specs.Held.{principal_name}
 use Rattle.krb_time.specs.SecondOf.{IsSecondOf, sole_second}
 use Rattle.krb_client.specs.Messages.{ap_request_bytes, authenticator_bytes}
-use Rattle.krb_encrypted_data.specs.Sealing.{Seals, sole_seals}
+use Rattle.krb_tickets.specs.Sealing.{Seals, sole_seals}
 
 -- the client's part of an authenticator, and the microseconds of its time
 abbrev pub authenticator_parts_of : ClientRecord → Micros → AuthenticatorParts

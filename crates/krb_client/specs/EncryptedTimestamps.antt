@@ -11,15 +11,15 @@ use Rattle.krb_constants.specs.declared.key_usages.TheConstants.{AS_REQ_TIMESTAM
 use Rattle.krb_constants.specs.declared.padata_types.TheConstants.{PA_ENC_TIMESTAMP}
 use Rattle.krb_crypto.specs.Suites.{cipher_confounder_size}
 use Rattle.krb_crypto.specs.declared.suite.CipherSuite.{CipherSuite}
-use Rattle.krb_types.specs.RandomBytes.{Random, timestamp_confounder}
-use Rattle.krb_types.specs.declared.data_types.encrypted_data.EncryptedData.{EncryptedData}
-use Rattle.krb_types.specs.declared.data_types.pa_data.PaData.{PaData}
-use Rattle.krb_types.specs.declared.data_types.pa_enc_timestamp.PaEncTsEnc.{PaEncTsEnc}
+use Rattle.krb_messages.specs.RandomBytes.{Random, timestamp_confounder}
+use Rattle.krb_messages.specs.declared.data_types.encrypted_data.EncryptedData.{EncryptedData}
+use Rattle.krb_messages.specs.declared.data_types.pa_data.PaData.{PaData}
+use Rattle.krb_messages.specs.declared.data_types.pa_enc_timestamp.PaEncTsEnc.{PaEncTsEnc}
 use Rattle.decision_tables.specs.Tables.{done}
 use Rattle.krb_client.specs.Means.{MeansRecord}
 use Rattle.krb_client.specs.Messages.{encrypted_bytes, timestamp_bytes}
 use Rattle.krb_client.specs.Requests.{pa_data_of}
-use Rattle.krb_encrypted_data.specs.Sealing.{Seals, sole_seals}
+use Rattle.krb_tickets.specs.Sealing.{Seals, sole_seals}
 
 -- the client's time, its microseconds always with it
 abbrev pub timestamp_of : GeneralizedTime → Micros → PaEncTsEnc

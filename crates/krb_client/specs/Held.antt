@@ -1,7 +1,7 @@
 -- The names that requests hold (RFC 4120, section 5.2.2).
 use Rattle.std.specs.Prelude.{ℕ, List, pos}
 use Rattle.picky_asn1.specs.Bytes.{Bytes}
-use Rattle.krb_types.specs.declared.data_types.principal_name.PrincipalName.{PrincipalName}
+use Rattle.krb_messages.specs.declared.data_types.principal_name.PrincipalName.{PrincipalName}
 
 -- a name of a type (RFC 4120, section 6.2)
 abbrev pub principal_name : ℕ → List Bytes → PrincipalName

@@ -3,11 +3,11 @@ use Rattle.std.specs.Prelude.{◌≡◌}
 use Rattle.std.proofs.Common.{ap, sym, ◌∙◌}
 use Rattle.picky_asn1.specs.Bytes.{Bytes}
 use Rattle.asn1_der.specs.Tree.{der}
-use Rattle.krb_types.specs.declared.data_types.authenticator.AuthenticatorInner.{AuthenticatorInner}
-use Rattle.krb_types.specs.declared.data_types.encrypted_data.EncryptedData.{EncryptedData}
-use Rattle.krb_types.specs.declared.data_types.pa_enc_timestamp.PaEncTsEnc.{PaEncTsEnc}
-use Rattle.krb_types.specs.Trees as held
-use Rattle.krb_types.specs.Refusals.{Code}
+use Rattle.krb_messages.specs.declared.data_types.authenticator.AuthenticatorInner.{AuthenticatorInner}
+use Rattle.krb_messages.specs.declared.data_types.encrypted_data.EncryptedData.{EncryptedData}
+use Rattle.krb_messages.specs.declared.data_types.pa_enc_timestamp.PaEncTsEnc.{PaEncTsEnc}
+use Rattle.krb_messages.specs.Trees as held
+use Rattle.krb_messages.specs.Refusals.{Code}
 use Rattle.krb_messages.specs.declared.messages.ap_req.ApReqInner.{ApReqInner}
 use Rattle.krb_messages.specs.declared.messages.kdc_req.KdcReq.{KdcReq}
 use Rattle.krb_messages.specs.declared.messages.kdc_req_body.KdcReqBody.{KdcReqBody}

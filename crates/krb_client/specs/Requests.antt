@@ -7,9 +7,9 @@ use Rattle.picky_asn1_der.specs.declared.wrapper.ExplicitContextTag.{ExplicitCon
 use Rattle.asn1_leaves.specs.declared.date.GeneralizedTime.{GeneralizedTime}
 use Rattle.krb_constants.specs.declared.types.TheConstants.{KERBEROS_VERSION, NT_PRINCIPAL, NT_SRV_INST}
 use Rattle.krb_crypto.specs.Suites.{cipher_number}
-use Rattle.krb_types.specs.declared.data_types.pa_data.PaData.{PaData}
-use Rattle.krb_types.specs.declared.data_types.principal_name.PrincipalName.{PrincipalName}
-use Rattle.krb_types.specs.RandomBytes.{Random, nonce_bytes}
+use Rattle.krb_messages.specs.declared.data_types.pa_data.PaData.{PaData}
+use Rattle.krb_messages.specs.declared.data_types.principal_name.PrincipalName.{PrincipalName}
+use Rattle.krb_messages.specs.RandomBytes.{Random, nonce_bytes}
 use Rattle.krb_messages.specs.declared.messages.kdc_req.KdcReq.{KdcReq}
 use Rattle.krb_messages.specs.declared.messages.kdc_req_body.KdcReqBody.{KdcReqBody}
 use Rattle.krb_client.specs.Client.{ClientRecord}

@@ -4,18 +4,18 @@ use Rattle.std.specs.Prelude.{ℕ, ℤ, Bool, not, ◌&&◌, List, Result, Ok, E
 use Rattle.std.specs.Option.{option_map_or}
 use Rattle.asn1_leaves.specs.declared.date.GeneralizedTime.{GeneralizedTime}
 use Rattle.krb_crypto.specs.declared.suite.CipherSuite.{CipherSuite}
-use Rattle.krb_types.specs.declared.data_types.encrypted_data.EncryptedData.{EncryptedData}
+use Rattle.krb_messages.specs.declared.data_types.encrypted_data.EncryptedData.{EncryptedData}
 use Rattle.krb_messages.specs.declared.messages.enc_kdc_rep_part.EncKdcRepPart.{EncKdcRepPart}
 use Rattle.krb_messages.specs.declared.messages.kdc_rep.KdcRep.{KdcRep}
 use Rattle.krb_messages.specs.Messages.{enc_tgs_rep_part-injective, enc_tgs_rep_part_tree}
 use Rattle.krb_constants.specs.declared.types.TheConstants.{KERBEROS_VERSION}
-use Rattle.krb_encrypted_data.specs.Keys.{suite_of}
-use Rattle.krb_encrypted_data.specs.Sealed.{IsSealedIn, sole_sealed}
+use Rattle.krb_tickets.specs.Keys.{suite_of}
+use Rattle.krb_tickets.specs.SealedData.{IsSealedIn, sole_sealed}
 use Rattle.picky_asn1.specs.Numbers.{is_number}
 use Rattle.picky_asn1.specs.Bytes.{Bytes}
 use Rattle.decision_tables.specs.One.{IsSole}
 use Rattle.decision_tables.specs.Tables.{Table, ask, done, need, refuse}
-use Rattle.krb_reply_match.specs.Answers.{is_answer}
+use Rattle.krb_tickets.specs.Answers.{is_answer}
 use Rattle.krb_client.specs.Client.{ClientRecord, CredentialRecord}
 use Rattle.krb_client.specs.Messages.{IsErrorCode, sole_error_code}
 use Rattle.krb_client.specs.declared.refusal.TakeRefusal.{TakeRefusal}

@@ -11,9 +11,9 @@ use Rattle.krb_constants.specs.declared.padata_types.TheConstants.{PA_TGS_REQ}
 use Rattle.krb_constants.specs.declared.types.TheConstants.{TGS_REQ_MSG_TYPE}
 use Rattle.krb_crypto.specs.Sealing.{checksum_of}
 use Rattle.krb_crypto.specs.Suites.{checksum_number, cipher_checksum, cipher_confounder_size}
-use Rattle.krb_types.specs.declared.data_types.authenticator.AuthenticatorInner.{AuthenticatorInner}
-use Rattle.krb_types.specs.declared.data_types.checksum.Checksum.{Checksum}
-use Rattle.krb_types.specs.RandomBytes.{Random, authenticator_confounder}
+use Rattle.krb_messages.specs.declared.data_types.authenticator.AuthenticatorInner.{AuthenticatorInner}
+use Rattle.krb_messages.specs.declared.data_types.checksum.Checksum.{Checksum}
+use Rattle.krb_messages.specs.RandomBytes.{Random, authenticator_confounder}
 use Rattle.krb_messages.specs.declared.messages.kdc_req.KdcReq.{KdcReq}
 use Rattle.krb_client.specs.Asked.{TgsAskedRecord}
 use Rattle.krb_client.specs.Authenticators.{IsApRequest, IsAuthenticatorOf, sole_presented, sole_authenticator_of}

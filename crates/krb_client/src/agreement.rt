@@ -1,9 +1,9 @@
 //! The random bytes of a client's agreement.
 ghost use Rattle.std.specs.Prelude.{◌≡◌, length};
-ghost use Rattle.krb_types.specs.RandomBytes.{AreEnoughForRequest};
+ghost use Rattle.krb_messages.specs.RandomBytes.{AreEnoughForRequest};
 ghost use Rattle.krb_client.specs.Asked.{agreement_part};
 
-use krb_types::random_bytes::{AGREEMENT_SIZE, CLIENT_AGREEMENT};
+use krb_messages::random_bytes::{AGREEMENT_SIZE, CLIENT_AGREEMENT};
 
 /// The random bytes of the client's agreement among those of an AS request (RFC 4556, section 3.2.1). `words`: random bytes, 96 or
 /// more.

@@ -9,9 +9,9 @@ use crate::read::{open_ap_part, read_ap_reply, read_error_code};
 use crate::refusal::TakeRefusal;
 use crate::taking::is_of_type;
 use krb_constants::types::AP_REP_MSG_TYPE;
+use krb_messages::data_types::EncApRepPartInner;
 use krb_messages::messages::ApRepInner;
 use krb_time::Moment;
-use krb_types::data_types::EncApRepPartInner;
 use picky_asn1::is_number;
 use std::alloc::Global;
 

@@ -1,9 +1,9 @@
 //! Asking a service.
 ghost use Rattle.std.specs.Prelude.{◌≡◌, ℕ, List, IfErr, IfOk};
 ghost use Rattle.std.specs.Option.{option_map};
-ghost use Rattle.krb_types.specs.RandomBytes.{AreEnoughForRequest};
+ghost use Rattle.krb_messages.specs.RandomBytes.{AreEnoughForRequest};
 ghost use Rattle.krb_client.specs.ApRequest.{AsksAp, ap_asked, chosen_subkey};
-ghost use Rattle.krb_encrypted_data.specs.Sealing.{encryption_key};
+ghost use Rattle.krb_tickets.specs.Sealing.{encryption_key};
 
 use crate::asked::ApAsked;
 use crate::authenticator::ap_request;
@@ -12,10 +12,10 @@ use crate::credential::Credential;
 use crate::refusal::AskRefusal;
 use krb_constants::key_usages;
 use krb_crypto::CipherSuite;
-use krb_encrypted_data::{confounder_at, encryption_key, key_at};
+use krb_messages::data_types::EncryptionKey;
+use krb_messages::random_bytes::{AUTHENTICATOR_CONFOUNDER, SUBKEY_SEED};
+use krb_tickets::{confounder_at, encryption_key, key_at};
 use krb_time::Moment;
-use krb_types::data_types::EncryptionKey;
-use krb_types::random_bytes::{AUTHENTICATOR_CONFOUNDER, SUBKEY_SEED};
 use picky_asn1::wrapper::OctetStringAsn1;
 use std::alloc::{AllocError, Global};
 

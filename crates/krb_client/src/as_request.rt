@@ -1,6 +1,6 @@
 //! Asking for a first ticket.
 ghost use Rattle.std.specs.Prelude.{◌≡◌, ◌↔◌, ℕ, List, false, Err, IfErr, IfOk};
-ghost use Rattle.krb_types.specs.RandomBytes.{AreEnoughForRequest};
+ghost use Rattle.krb_messages.specs.RandomBytes.{AreEnoughForRequest};
 ghost use Rattle.krb_accounts.specs.Names.{are_components, parts};
 ghost use Rattle.krb_client.specs.AsRequest.{AsksAs, IsUnasked, as_asked, as_body, as_request_of};
 ghost use Rattle.krb_client.specs.Means.{IsUnshown};
@@ -13,9 +13,9 @@ use crate::means::Means;
 use crate::refusal::AskRefusal;
 use krb_accounts::{are_components, components_of};
 use krb_constants::types::AS_REQ_MSG_TYPE;
+use krb_messages::data_types::PaData;
 use krb_messages::messages::{KdcReq, KdcReqBody};
 use krb_time::Moment;
-use krb_types::data_types::PaData;
 use picky_asn1::date::GeneralizedTime;
 use picky_asn1::wrapper::GeneralStringAsn1;
 use picky_asn1_der::tagged_encoding;

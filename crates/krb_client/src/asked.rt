@@ -1,13 +1,13 @@
 //! What a client remembers of its requests.
 ghost use Rattle.std.specs.Prelude.{◌≡◌, length};
 ghost use Rattle.std.specs.Option.{option_copied};
-ghost use Rattle.krb_types.specs.RandomBytes.{AreEnoughForRequest};
+ghost use Rattle.krb_messages.specs.RandomBytes.{AreEnoughForRequest};
 ghost use Rattle.krb_client.specs.Asked.{agreement_part};
 
 use crate::agreement::agreement_part;
 use krb_crypto::{CipherSuite, Key};
+use krb_messages::random_bytes::AGREEMENT_SIZE;
 use krb_time::Moment;
-use krb_types::random_bytes::AGREEMENT_SIZE;
 use picky_asn1::wrapper::{GeneralStringAsn1, OctetStringAsn1};
 use std::marker::Model;
 

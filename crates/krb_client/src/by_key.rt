@@ -1,6 +1,6 @@
 //! Authenticating by a key.
 ghost use Rattle.std.specs.Prelude.{◌≡◌, length, IfOk};
-ghost use Rattle.krb_types.specs.RandomBytes.{AreEnoughForRequest};
+ghost use Rattle.krb_messages.specs.RandomBytes.{AreEnoughForRequest};
 ghost use Rattle.krb_client.specs.Messages.{encrypted_bytes, timestamp_bytes};
 ghost use Rattle.krb_client.specs.Requests.{pa_data_of};
 ghost use Rattle.krb_client.specs.EncryptedTimestamps.{IsSealedTime, IsPaEncTimestamp, timestamp_of};
@@ -14,11 +14,11 @@ use crate::refusal::{AskRefusal, TakeRefusal};
 use krb_constants::key_usages;
 use krb_constants::padata_types::PA_ENC_TIMESTAMP;
 use krb_crypto::Key;
-use krb_encrypted_data::{confounder_at, sealed_data};
+use krb_messages::data_types::{EncryptedData, PaData, PaEncTsEnc};
 use krb_messages::messages::{KdcRep, KdcReqBody};
+use krb_messages::random_bytes::TIMESTAMP_CONFOUNDER;
+use krb_tickets::{confounder_at, sealed_data};
 use krb_time::Moment;
-use krb_types::data_types::{EncryptedData, PaData, PaEncTsEnc};
-use krb_types::random_bytes::TIMESTAMP_CONFOUNDER;
 use picky_asn1::date::GeneralizedTime;
 use picky_asn1::wrapper::{GeneralizedTimeAsn1, IntegerAsn1};
 use picky_asn1_der::{ExplicitContextTag, Optional, encoding_of};

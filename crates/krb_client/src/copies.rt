@@ -1,7 +1,7 @@
 //! Copies of what messages hold.
 ghost use Rattle.std.specs.Prelude.{◌≡◌, IfOk};
 
-use krb_types::data_types::Ticket;
+use krb_messages::data_types::Ticket;
 use std::alloc::AllocError;
 
 /// A copy of a ticket.

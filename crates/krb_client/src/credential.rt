@@ -1,15 +1,15 @@
 //! What a KDC grants a client.
 ghost use Rattle.std.specs.Prelude.{◌≡◌, Some, IfOk};
-ghost use Rattle.krb_encrypted_data.specs.Keys.{key_in};
+ghost use Rattle.krb_tickets.specs.Keys.{key_in};
 ghost use Rattle.krb_client.specs.Taking.{credential_of, starttime_of};
 
 use crate::copies::ticket_copy;
+use decision_tables::both;
 use krb_crypto::{CipherSuite, Key};
+use krb_messages::data_types::{KerberosFlags, PrincipalName, Ticket};
 use krb_messages::messages::{EncKdcRepPart, KdcRep};
-use krb_types::data_types::{KerberosFlags, PrincipalName, Ticket};
 use picky_asn1::date::GeneralizedTime;
 use picky_asn1::wrapper::GeneralStringAsn1;
-use result_pairs::both;
 use std::alloc::AllocError;
 use std::marker::Model;
 

@@ -1,22 +1,22 @@
 //! Requests to a KDC: what those for a first ticket and for further ones have in common.
 ghost use Rattle.std.specs.Prelude.{◌≡◌, [], ◌∷◌, pos, IfOk};
-ghost use Rattle.krb_types.specs.RandomBytes.{AreEnoughForRequest};
+ghost use Rattle.krb_messages.specs.RandomBytes.{AreEnoughForRequest};
 ghost use Rattle.krb_crypto.specs.Suites.{cipher_number};
 ghost use Rattle.krb_client.specs.Requests.{pa_data_of, name_where, no_options, nonce_of, request_body, kdc_request_of};
 
 use crate::client::Client;
 use crate::names::principal_name;
+use decision_tables::both;
 use krb_constants::types::{KERBEROS_VERSION, NT_PRINCIPAL, NT_SRV_INST};
+use krb_messages::data_types::{KerberosFlags, PaData, PrincipalName};
 use krb_messages::messages::{KdcReq, KdcReqBody};
-use krb_types::data_types::{KerberosFlags, PaData, PrincipalName};
-use krb_types::random_bytes::NONCE;
+use krb_messages::random_bytes::NONCE;
 use picky_asn1::date::GeneralizedTime;
 use picky_asn1::wrapper::{
     Asn1SequenceOf, BitStringAsn1, GeneralStringAsn1, GeneralizedTimeAsn1, IntegerAsn1,
     OctetStringAsn1,
 };
 use picky_asn1_der::{ExplicitContextTag, ExplicitContextTag1, Optional};
-use result_pairs::both;
 use std::alloc::{AllocError, Global};
 
 /// A nonce has 31 bits, so that it is positive for every reader (RFC 4120, section 5.4.1).

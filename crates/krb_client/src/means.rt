@@ -1,15 +1,15 @@
 //! How a client authenticates itself.
 ghost use Rattle.std.specs.Prelude.{IfErr, IfOk};
-ghost use Rattle.krb_types.specs.RandomBytes.{AreEnoughForRequest};
+ghost use Rattle.krb_messages.specs.RandomBytes.{AreEnoughForRequest};
 ghost use Rattle.krb_client.specs.Refusals.{IsTaken};
 
 use crate::asked::AsAsked;
 use crate::client::Client;
 use crate::refusal::{AskRefusal, TakeRefusal};
 use krb_crypto::Key;
+use krb_messages::data_types::PaData;
 use krb_messages::messages::{KdcRep, KdcReqBody};
 use krb_time::Moment;
-use krb_types::data_types::PaData;
 use std::alloc::Global;
 
 /// How a client authenticates itself in an AS exchange (RFC 4120, section 3.1.1; RFC 4556, section 3.1). Contracts see the padata

@@ -11,11 +11,11 @@ ghost use Rattle.krb_client.specs.Taking.{IsTgsPart};
 use crate::asked::ApAsked;
 use krb_constants::key_usages;
 use krb_crypto::Key;
-use krb_encrypted_data::open_sealed;
+use krb_messages::data_types::{EncApRepPart, EncApRepPartInner, EncryptedData};
 use krb_messages::messages::{
     ApRep, ApRepInner, AsRep, EncAsRepPart, EncKdcRepPart, EncTgsRepPart, KdcRep, KrbError, TgsRep,
 };
-use krb_types::data_types::{EncApRepPart, EncApRepPartInner, EncryptedData};
+use krb_tickets::open_sealed;
 use picky_asn1_der::read_whole;
 use std::alloc::{AllocError, Global};
 

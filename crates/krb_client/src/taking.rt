@@ -1,6 +1,6 @@
 //! Taking replies: the rules that their kinds have in common.
 ghost use Rattle.std.specs.Prelude.{◌≡◌};
-ghost use Rattle.krb_reply_match.specs.Answers.{is_answer};
+ghost use Rattle.krb_tickets.specs.Answers.{is_answer};
 ghost use Rattle.krb_client.specs.Refusals.{IsTaken};
 ghost use Rattle.krb_client.specs.Taking.{is_of_type, takes_part};
 
@@ -8,9 +8,8 @@ use crate::client::Client;
 use crate::credential::Credential;
 use crate::refusal::TakeRefusal;
 use krb_constants::types::KERBEROS_VERSION;
-use krb_encrypted_data::key_of;
 use krb_messages::messages::{EncKdcRepPart, KdcRep};
-use krb_reply_match::is_answer;
+use krb_tickets::{is_answer, key_of};
 use picky_asn1::is_number;
 use picky_asn1::wrapper::{GeneralStringAsn1, IntegerAsn1};
 

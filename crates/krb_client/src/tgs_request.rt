@@ -1,6 +1,6 @@
 //! Asking for a service ticket.
 ghost use Rattle.std.specs.Prelude.{◌≡◌, ◌↔◌, ◌⊎◌, ℕ, List, length, false, Err, IfErr, IfOk};
-ghost use Rattle.krb_types.specs.RandomBytes.{AreEnoughForRequest};
+ghost use Rattle.krb_messages.specs.RandomBytes.{AreEnoughForRequest};
 ghost use Rattle.krb_accounts.specs.Names.{are_components, parts};
 ghost use Rattle.krb_client.specs.Messages.{tgs_request_bytes};
 ghost use Rattle.krb_messages.specs.Bodies.{body_bytes};
@@ -14,20 +14,20 @@ use crate::client::Client;
 use crate::credential::Credential;
 use crate::kdc_request::{kdc_request_of, nonce_of, pa_data_of};
 use crate::refusal::AskRefusal;
+use decision_tables::both;
 use krb_accounts::{are_components, components_of};
 use krb_constants::key_usages;
 use krb_constants::padata_types::PA_TGS_REQ;
 use krb_constants::types::TGS_REQ_MSG_TYPE;
 use krb_crypto::Cipher;
-use krb_encrypted_data::confounder_at;
+use krb_messages::data_types::Checksum;
 use krb_messages::messages::{KdcReq, KdcReqBody};
+use krb_messages::random_bytes::AUTHENTICATOR_CONFOUNDER;
+use krb_tickets::confounder_at;
 use krb_time::Moment;
-use krb_types::data_types::Checksum;
-use krb_types::random_bytes::AUTHENTICATOR_CONFOUNDER;
 use picky_asn1::date::GeneralizedTime;
 use picky_asn1::wrapper::{GeneralStringAsn1, IntegerAsn1, OctetStringAsn1};
 use picky_asn1_der::{ExplicitContextTag, encoding_of, tagged_encoding};
-use result_pairs::both;
 use std::alloc::{AllocError, Global};
 
 impl Client {

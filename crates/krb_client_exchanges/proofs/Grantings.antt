@@ -10,7 +10,7 @@ use Rattle.krb_accounts.specs.Passwords.{password_salt}
 use Rattle.krb_crypto.specs.Sealing.{password_key_of}
 use Rattle.krb_crypto.specs.Suites.{cipher_number}
 use Rattle.krb_crypto.specs.declared.suite.CipherSuite.{CipherSuite}
-use Rattle.krb_keytabs.specs.Entries.{Entry}
+use Rattle.krb_file_formats.specs.Entries.{Entry}
 use Rattle.krb_client.specs.AsReply.{takes_as_reply}
 use Rattle.krb_client.specs.Asked.{AsAskedRecord}
 use Rattle.krb_client.specs.Client.{ClientRecord, CredentialRecord}

@@ -21,7 +21,7 @@ use Rattle.krb_messages.specs.Messages.{IsKrbError}
 use Rattle.krb_messages.specs.declared.messages.krb_error.KrbErrorInner.{KrbErrorInner}
 use Rattle.krb_tickets.specs.MethodData.{key_entry, key_info_bytes, key_info_tree, method_data, method_data_bytes, salt_of}
 use Rattle.krb_tickets.specs.Padata.{first_of, first_padata}
-use Rattle.krb_types.specs.declared.data_types.etype_info2.EtypeInfo2Entry.{EtypeInfo2Entry}
+use Rattle.krb_messages.specs.declared.data_types.etype_info2.EtypeInfo2Entry.{EtypeInfo2Entry}
 use Rattle.krb_client_exchanges.specs.Hints.{Hinted, error_hint, first_entry, hint_by, hint_of_data, hint_of_entries, hint_of_info, suite_among}
 use Rattle.krb_client_exchanges.specs.Messages.{IsEtypeInfo2, IsMethodData}
 use Rattle.krb_client_exchanges.specs.Parameters.{has_own_parameters}

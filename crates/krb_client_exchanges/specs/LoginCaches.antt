@@ -6,15 +6,15 @@ use Rattle.asn1_der.specs.Tree.{der, wrapped}
 use Rattle.asn1_leaves.specs.GeneralizedTime.{seconds_of}
 use Rattle.picky_asn1.specs.BitString.{Bits}
 use Rattle.picky_asn1.specs.Bytes.{Bytes}
-use Rattle.krb_clock.specs.Epoch.{since_epoch}
+use Rattle.krb_time.specs.Epoch.{since_epoch}
 use Rattle.krb_constants.specs.declared.types.TheConstants.{APPLICATION, NT_PRINCIPAL, NT_SRV_INST, TICKET_TYPE}
 use Rattle.krb_crypto.specs.Suites.{cipher_number}
-use Rattle.krb_types.specs.contracts.data_types.ticket.TicketInnerTagged.TheImpl as ticket_impl
-use Rattle.krb_types.specs.declared.data_types.ticket.TicketInner.{TicketInner}
+use Rattle.krb_messages.specs.contracts.data_types.ticket.TicketInnerTagged.TheImpl as ticket_impl
+use Rattle.krb_messages.specs.declared.data_types.ticket.TicketInner.{TicketInner}
 use Rattle.krb_client.specs.Client.{ClientRecord, CredentialRecord}
-use Rattle.krb_credential_caches.specs.Caches.{Cache, Credential, Principal, Typed}
-use Rattle.krb_credential_caches.specs.declared.times.CredentialTimes.{CredentialTimes}
-use Rattle.krb_keytabs.specs.Numbers.{be32_at}
+use Rattle.krb_file_formats.specs.Caches.{Cache, Credential, Principal, Typed}
+use Rattle.krb_file_formats.specs.declared.credential_caches.times.CredentialTimes.{CredentialTimes}
+use Rattle.krb_file_formats.specs.Numbers.{be32_at}
 
 -- the encoding of a ticket, [APPLICATION 1] (RFC 4120, section 5.3)
 unfoldable pub ticket_bytes : TicketInner → Bytes

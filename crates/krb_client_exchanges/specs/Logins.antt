@@ -3,7 +3,7 @@ use Rattle.std.specs.Prelude.{Bool, true, false, List, [], ◌∷◌}
 use Rattle.decision_tables.specs.Tables.{Table, as_made, done}
 use Rattle.picky_asn1.specs.Bytes.{Bytes}
 use Rattle.krb_crypto.specs.declared.suite.CipherSuite.{CipherSuite}
-use Rattle.krb_keytabs.specs.Entries.{Entry}
+use Rattle.krb_file_formats.specs.Entries.{Entry}
 use Rattle.krb_client.specs.AsReply.{takes_as_reply}
 use Rattle.krb_client.specs.Asked.{AsAskedRecord}
 use Rattle.krb_client.specs.Client.{ClientRecord, CredentialRecord}

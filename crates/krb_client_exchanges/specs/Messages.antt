@@ -7,9 +7,9 @@ use Rattle.asn1_der.proofs.Elements.{element-content}
 use Rattle.asn1_der.proofs.Rows.{many-injective}
 use Rattle.asn1_der.specs.Octets.{sequence_octet}
 use Rattle.decision_tables.specs.One.{IsSole}
-use Rattle.krb_types.specs.declared.data_types.etype_info2.EtypeInfo2Entry.{EtypeInfo2Entry}
-use Rattle.krb_types.specs.declared.data_types.pa_data.PaData.{PaData}
-use Rattle.krb_types.specs.Trees as held
+use Rattle.krb_messages.specs.declared.data_types.etype_info2.EtypeInfo2Entry.{EtypeInfo2Entry}
+use Rattle.krb_messages.specs.declared.data_types.pa_data.PaData.{PaData}
+use Rattle.krb_messages.specs.Trees as held
 use Rattle.krb_tickets.specs.MethodData.{key_info_tree, method_data_tree}
 
 -- The bytes are the one encoding of this METHOD-DATA.

@@ -4,17 +4,17 @@ use Rattle.std.specs.Cmp.Lexicographic.{pointwise}
 use Rattle.std.specs.Bool.{nat_eq}
 use Rattle.std.specs.Int.{to_be_bytes, w32}
 use Rattle.std.specs.Option.{option_map_or}
-use Rattle.aes_cts.specs.AesSize.{key_length_of}
-use Rattle.aes_cts.specs.declared.aes.AesSize.{AesSize}
-use Rattle.krb_profile.specs.Pbkdf2.{pbkdf2_hmac_sha1_of, pbkdf2_of}
-use Rattle.krb_aes.specs.Derivation.{aes_derived_key_of, aes_password_key_of}
-use Rattle.krb_aes.specs.declared.derivation.TheConstants.{AES_ITERATIONS}
-use Rattle.krb_aes_sha2.specs.Derivation.{hmac_sha2_of, hmac_size_of, name_of, sha2_derived_key_of, sha2_password_key_of}
-use Rattle.krb_aes_sha2.specs.declared.derivation.TheConstants.{AES_SHA2_ITERATIONS}
+use Rattle.block_ciphers.specs.AesSize.{key_length_of}
+use Rattle.block_ciphers.specs.declared.aes.AesSize.{AesSize}
+use Rattle.encryption_profiles.specs.Pbkdf2.{pbkdf2_hmac_sha1_of, pbkdf2_of}
+use Rattle.encryption_profiles.specs.AesDerivation.{aes_derived_key_of, aes_password_key_of}
+use Rattle.encryption_profiles.specs.declared.aes.derivation.TheConstants.{AES_ITERATIONS}
+use Rattle.encryption_profiles.specs.AesSha2Derivation.{hmac_sha2_of, hmac_size_of, name_of, sha2_derived_key_of, sha2_password_key_of}
+use Rattle.encryption_profiles.specs.declared.aes_sha2.derivation.TheConstants.{AES_SHA2_ITERATIONS}
 use Rattle.picky_asn1.specs.Bytes.{Bytes}
 use Rattle.krb_crypto.specs.declared.suite.CipherSuite.{CipherSuite}
 use Rattle.krb_crypto.specs.declared.suite.CipherSuite.TheVariants.{Aes128CtsHmacSha196, Aes256CtsHmacSha196, Des3CbcSha1Kd, Aes128CtsHmacSha256128, Aes256CtsHmacSha384192}
-use Rattle.krb_types.specs.declared.data_types.etype_info2.EtypeInfo2Entry.{EtypeInfo2Entry}
+use Rattle.krb_messages.specs.declared.data_types.etype_info2.EtypeInfo2Entry.{EtypeInfo2Entry}
 
 -- The iteration count by which the suite makes a key of a password: 4096 of AES, and 32768 of AES with SHA-2. Triple DES has none.
 abbrev pub iterations : CipherSuite → Option ℕ

@@ -3,7 +3,7 @@ use Rattle.std.specs.Prelude.{◌≡◌, false, List, Result, Ok, Err}
 use Rattle.picky_asn1.specs.Bytes.{Bytes}
 use Rattle.krb_accounts.specs.Names.{are_components}
 use Rattle.krb_crypto.specs.declared.suite.CipherSuite.{CipherSuite}
-use Rattle.krb_types.specs.TicketGranting.{krbtgt_of}
+use Rattle.krb_messages.specs.TicketGranting.{krbtgt_of}
 use Rattle.krb_client.specs.AsRequest.{as_asked}
 use Rattle.krb_client.specs.Asked.{AsAskedRecord, TgsAskedRecord}
 use Rattle.krb_client.specs.Client.{ClientRecord, CredentialRecord}

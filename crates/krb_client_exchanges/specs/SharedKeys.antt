@@ -7,8 +7,8 @@ use Rattle.picky_asn1.specs.Bytes.{Bytes}
 use Rattle.krb_crypto.specs.Keys.{KeyRecord}
 use Rattle.krb_crypto.specs.Suites.{cipher_key_size, cipher_number}
 use Rattle.krb_crypto.specs.declared.suite.CipherSuite.{CipherSuite}
-use Rattle.krb_types.specs.Names.{is_same_name, is_same_realm}
-use Rattle.krb_keytabs.specs.Entries.{Entry}
+use Rattle.krb_messages.specs.Names.{is_same_name, is_same_realm}
+use Rattle.krb_file_formats.specs.Entries.{Entry}
 use Rattle.krb_client.specs.Client.{ClientRecord}
 use Rattle.krb_client.specs.declared.by_key.ByKey.{ByKey}
 use Rattle.krb_client_exchanges.specs.HintedClients.{client_by_hint}

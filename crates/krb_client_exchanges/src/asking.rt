@@ -1,11 +1,12 @@
 //! The first request, which has no padata.
 ghost use Rattle.std.specs.Prelude.{◌≡◌, ◌↔◌, ◌⊎◌, false, Err, IfErr, IfOk};
-ghost use Rattle.krb_types.specs.RandomBytes.{AreEnoughForRequest};
+ghost use Rattle.krb_messages.specs.RandomBytes.{AreEnoughForRequest};
 ghost use Rattle.krb_accounts.specs.Names.{are_components, parts};
 ghost use Rattle.krb_client.specs.AsRequest.{as_asked};
 ghost use Rattle.krb_client.specs.Messages.{as_request_bytes};
 ghost use Rattle.krb_client_exchanges.specs.FirstRequests.{bare_request, etypes, first_body, first_request_bytes, listing_body};
 
+use decision_tables::both;
 use krb_accounts::{are_components, components_of};
 use krb_client::{AsAsked, AskRefusal, Client, nonce_of};
 use krb_constants::types::{AS_REQ_MSG_TYPE, KERBEROS_VERSION};
@@ -15,7 +16,6 @@ use krb_time::Moment;
 use picky_asn1::date::GeneralizedTime;
 use picky_asn1::wrapper::{Asn1SequenceOf, GeneralStringAsn1, IntegerAsn1};
 use picky_asn1_der::{ExplicitContextTag, Optional, tagged_encoding};
-use result_pairs::both;
 use std::alloc::{AllocError, Global};
 
 /// The client's request for a ticket for a service of its realm till a time, without padata, and what the client has to remember for the

@@ -3,9 +3,9 @@ ghost use Rattle.std.specs.Prelude.{◌≡◌, ◌∷◌, IfOk, map};
 ghost use Rattle.krb_client_exchanges.specs.LoginCaches.{cached_credential, login_cache};
 
 use crate::credentials::{cached_of, client_principal};
+use decision_tables::both;
 use krb_client::{Client, Credential};
-use krb_credential_caches::{CachedCredential, CredentialCache};
-use result_pairs::both;
+use krb_file_formats::{CachedCredential, CredentialCache};
 use std::alloc::{AllocError, Global};
 
 /// The cache of a client, with its ticket-granting ticket and its service tickets. Fails only if memory runs out.

@@ -10,11 +10,11 @@ use crate::fault::ExchangeFault;
 use crate::kdc::Kdc;
 use crate::sending::ask_by_means;
 use crate::taking::take_in;
-use key_functions::KeyFunctions;
 use krb_client::{Client, Credential, Means};
 use krb_crypto::CipherSuite;
 use pkinit_clients::ByCertificate;
 use std::alloc::Global;
+use x509_keys::KeyFunctions;
 
 /// Gets a ticket-granting ticket of the client's realm by certificate (RFC 4556, section 3.1). The client's own suite doesn't count.
 ///

@@ -4,7 +4,7 @@ ghost use Rattle.std.specs.Option.{option_copied};
 ghost use Rattle.krb_client_exchanges.specs.Hints.{first_entry, suite_among};
 
 use krb_crypto::CipherSuite;
-use krb_types::data_types::EtypeInfo2Entry;
+use krb_messages::data_types::EtypeInfo2Entry;
 use picky_asn1::is_number;
 use picky_asn1::wrapper::IntegerAsn1;
 

@@ -18,7 +18,7 @@ ghost use Rattle.krb_client_exchanges.specs.Suites.{is_one_of, strength, suites_
 ghost use Rattle.krb_client_exchanges.specs.declared.hint.KeyHint.{KeyHint};
 ghost use Rattle.krb_client_exchanges.specs.declared.wanted.Wanted.{Wanted};
 ghost use Rattle.krb_client_exchanges.specs.declared.wanted.Wanted.TheVariants.{Usual};
-ghost use Rattle.krb_keytabs.specs.Entries.{Entry};
+ghost use Rattle.krb_file_formats.specs.Entries.{Entry};
 ghost use Rattle.krb_messages.specs.Messages.{IsKrbError};
 ghost use Rattle.krb_messages.specs.declared.messages.krb_error.KrbErrorInner.{KrbErrorInner};
 ghost use Rattle.krb_tickets.specs.MethodData.{method_data_bytes, salt_of};

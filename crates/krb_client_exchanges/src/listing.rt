@@ -1,6 +1,6 @@
 //! Requests that list several suites, of which the KDC chooses.
 ghost use Rattle.std.specs.Prelude.{◌≡◌, ◌↔◌, ◌⊎◌, ◌∷◌, [], ℕ, List, length, false, Err, IfErr, IfOk};
-ghost use Rattle.krb_types.specs.RandomBytes.{AreEnoughForRequest};
+ghost use Rattle.krb_messages.specs.RandomBytes.{AreEnoughForRequest};
 ghost use Rattle.krb_accounts.specs.Names.{are_components, parts};
 ghost use Rattle.krb_client.specs.AsRequest.{as_asked};
 ghost use Rattle.krb_client.specs.Means.{IsUnshown};
@@ -13,6 +13,7 @@ ghost use Rattle.krb_client_exchanges.specs.FirstRequests.{first_body};
 ghost use Rattle.krb_client_exchanges.specs.ListedRequests.{AsksAsOfSuites, AsksTgsOfSuites, IsUnaskedOfSuites, further_body, further_request};
 
 use crate::asking::{encoded, first_body, listing_body};
+use decision_tables::both;
 use krb_accounts::{are_components, components_of};
 use krb_client::{
     AsAsked, AskRefusal, Client, Credential, Means, TgsAsked, ap_request_with, nonce_of,
@@ -21,15 +22,14 @@ use krb_constants::key_usages;
 use krb_constants::padata_types::PA_TGS_REQ;
 use krb_constants::types::{AS_REQ_MSG_TYPE, KERBEROS_VERSION, TGS_REQ_MSG_TYPE};
 use krb_crypto::{Cipher, CipherSuite};
-use krb_encrypted_data::confounder_at;
+use krb_messages::data_types::{Checksum, PaData};
 use krb_messages::messages::{KdcReq, KdcReqBody};
+use krb_messages::random_bytes::AUTHENTICATOR_CONFOUNDER;
+use krb_tickets::confounder_at;
 use krb_time::Moment;
-use krb_types::data_types::{Checksum, PaData};
-use krb_types::random_bytes::AUTHENTICATOR_CONFOUNDER;
 use picky_asn1::date::GeneralizedTime;
 use picky_asn1::wrapper::{Asn1SequenceOf, GeneralStringAsn1, IntegerAsn1, OctetStringAsn1};
 use picky_asn1_der::{ExplicitContextTag, Optional, encoding_of, tagged_encoding};
-use result_pairs::both;
 use std::alloc::{AllocError, Global};
 
 /// The request of `Client::as_request`, but with the etypes of these suites, in their order: the client's own suite doesn't count. The KDC

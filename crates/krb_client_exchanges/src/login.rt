@@ -16,7 +16,7 @@ use crate::sending::{ask_by_means, ask_first};
 use crate::taking::take_first;
 use krb_client::{AsAsked, ByKey, Client, Credential};
 use krb_crypto::CipherSuite;
-use krb_keytabs::KeytabRecord;
+use krb_file_formats::KeytabRecord;
 use std::alloc::Global;
 
 /// Gets a ticket-granting ticket of the client's realm by password (RFC 4120, section 3.1). The client's own suite doesn't count.

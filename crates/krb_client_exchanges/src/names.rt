@@ -1,11 +1,11 @@
 //! The names of a client and of its realm's ticket-granting service.
 ghost use Rattle.std.specs.Prelude.{◌≡◌, IfOk};
 ghost use Rattle.krb_accounts.specs.Names.{AreComponents, IsRealmName, parts};
-ghost use Rattle.krb_types.specs.TicketGranting.{krbtgt_of};
+ghost use Rattle.krb_messages.specs.TicketGranting.{krbtgt_of};
 
 use krb_client::Client;
 use krb_crypto::CipherSuite;
-use krb_types::krbtgt;
+use krb_messages::krbtgt;
 use std::alloc::{AllocError, Global};
 
 /// The components of the name of the ticket-granting service of a client's realm (RFC 4120, section 7.3).

@@ -2,10 +2,10 @@
 ghost use Rattle.std.specs.Prelude.{◌≡◌};
 ghost use Rattle.krb_client_exchanges.specs.Parameters.{are_parameters, has_own_parameters, iterations};
 
-use krb_aes::AES_ITERATIONS;
-use krb_aes_sha2::AES_SHA2_ITERATIONS;
+use encryption_profiles::aes::AES_ITERATIONS;
+use encryption_profiles::aes_sha2::AES_SHA2_ITERATIONS;
 use krb_crypto::CipherSuite;
-use krb_types::data_types::EtypeInfo2Entry;
+use krb_messages::data_types::EtypeInfo2Entry;
 
 /// Whether the entry has no `s2kparams`, or the suite's own.
 pub(crate) fn has_own_parameters(suite: CipherSuite, entry: &EtypeInfo2Entry) -> bool

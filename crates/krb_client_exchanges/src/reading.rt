@@ -4,8 +4,8 @@ ghost use Rattle.picky_asn1_der.specs.Found.{IsFound};
 ghost use Rattle.krb_messages.specs.Messages.{IsAsRep, IsKrbError};
 ghost use Rattle.krb_client_exchanges.specs.Messages.{IsEtypeInfo2, IsMethodData};
 
+use krb_messages::data_types::{EtypeInfo2, PaData};
 use krb_messages::messages::{AsRep, KdcRep, KrbError, KrbErrorInner};
-use krb_types::data_types::{EtypeInfo2, PaData};
 use picky_asn1::wrapper::Asn1SequenceOf;
 use picky_asn1_der::read_whole;
 use std::alloc::{AllocError, Global};

@@ -14,8 +14,8 @@ use crate::names::{client_with, name_of};
 use crate::{HintedClientRefusal, KeyHint, Wanted, client_by_hint};
 use krb_client::{ByKey, Client};
 use krb_crypto::{CipherSuite, Key};
-use krb_keytabs::KeytabRecord;
-use krb_types::{is_same_name, is_same_realm};
+use krb_file_formats::KeytabRecord;
+use krb_messages::{is_same_name, is_same_realm};
 use std::alloc::{AllocError, Global};
 
 /// What a client shares with its KDC.

@@ -1,7 +1,7 @@
 //! Requests that are made and sent.
 ghost use Rattle.std.specs.Prelude.{◌≡◌, IfOk};
 ghost use Rattle.krb_accounts.specs.Names.{parts};
-ghost use Rattle.krb_types.specs.RandomBytes.{AreEnoughForRequest};
+ghost use Rattle.krb_messages.specs.RandomBytes.{AreEnoughForRequest};
 ghost use Rattle.krb_client_exchanges.specs.Courses.{Runs, began};
 ghost use Rattle.krb_client_exchanges.specs.RequestKinds.{IsMadeAt, as_request_by, exchange, first_as_request, tgs_request_by};
 ghost use Rattle.krb_client_exchanges.specs.Taking.{not_asked, octets_first, octets_last, posted};

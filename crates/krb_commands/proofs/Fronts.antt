@@ -1,7 +1,7 @@
 -- The fronts of files that show their kinds.
 use Rattle.std.proofs.Common.{◌≡◌, ℕ, suc, ◌+◌, ◌-◌, ◌*◌, ◌<◌, ◌≤◌, ◌==◌, ◌&&◌, Bool, true, false, List, refl, ap, ◌∙◌, arith}
 use Rattle.std.proofs.lemmas.Bool.{eq-eqb, ne_eqb}
-use Rattle.byte_layouts.specs.Numbers.{le32_at}
+use Rattle.byte_streams.specs.Numbers.{le32_at}
 use Rattle.krb_commands.specs.Kinds.{all_joined, are_joined}
 
 -- the pointer of a table is the first of those that are left

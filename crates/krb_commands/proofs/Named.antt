@@ -1,9 +1,9 @@
 -- Stops of arguments that name no principal.
 use Rattle.std.proofs.Common.{◌≡◌, ◌⊎◌, inl, inr, List, ℕ, Option, None, Result, Ok, Err, refl}
 use Rattle.std.specs.Prelude.{IsErr}
-use Rattle.krb_types.specs.NameReading.{IsFault}
-use Rattle.krb_types.specs.declared.name_reading.NameTextFault.{NameTextFault}
-use Rattle.krb_types.specs.declared.name_reading.NameTextFault.TheVariants as fault
+use Rattle.krb_messages.specs.NameReading.{IsFault}
+use Rattle.krb_messages.specs.declared.name_reading.NameTextFault.{NameTextFault}
+use Rattle.krb_messages.specs.declared.name_reading.NameTextFault.TheVariants as fault
 use Rattle.krb_commands.specs.Stops.{IsUsage}
 use Rattle.krb_commands.specs.declared.stop.Stop.{Stop}
 use Rattle.krb_commands.specs.declared.stop.Stop.TheVariants.{Failed, Memory, Refused, Usage}

@@ -1,7 +1,7 @@
 -- The kinds of files: how long one may be, and what its first octets show of its kind.
 use Rattle.std.specs.Prelude.{ℕ, zero, suc, ◌+◌, ◌*◌, ◌==◌, ◌&&◌, ◌||◌, not, nat_eq, nat_lt, Bool, true, false, List, [], ◌∷◌, length, if◌then◌else◌}
 use Rattle.std.specs.List.{starts_with}
-use Rattle.byte_layouts.specs.Numbers.{le32_at}
+use Rattle.byte_streams.specs.Numbers.{le32_at}
 use Rattle.cdb.specs.declared.format.TheConstants.{HEADER_SIZE, PAIR_SIZE, TABLES}
 use Rattle.krb_commands.specs.declared.kinds.FileKind.{FileKind}
 use Rattle.krb_commands.specs.declared.kinds.FileKind.TheVariants.{Accounts, Database, Keytab, Cache, Certificate, PrivateKey, Settings}

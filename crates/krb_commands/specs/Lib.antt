@@ -1,3 +1,4 @@
+pub mod Configuration
 pub mod Printable
 pub mod Kinds
 pub mod Stops

@@ -1,7 +1,7 @@
 -- Octets of files and peers as a line shows them, and names of principals.
 use Rattle.std.specs.Prelude.{ℕ, ◌+◌, ◌/◌, ◌%◌, ◌≡◌, ◌&&◌, not, nat_lt, Bool, if◌then◌else◌, List, [], ◌∷◌, ◌++◌, codes, Option, None, Some, refl}
 use Rattle.std.specs.List.{flat_map}
-use Rattle.krb_types.specs.NameText.{escape_letter}
+use Rattle.krb_messages.specs.NameText.{escape_letter}
 
 -- a printable character of ASCII: from the blank (32) to the tilde (126)
 abbrev pub is_printable : ℕ → Bool

@@ -2,15 +2,15 @@
 ghost use Rattle.std.specs.Prelude.{◌≡◌, ◌∷◌, ◌⊎◌, List, None, Some, Ok, IfOk, IfErr, IsErr, codes, map, nat_eq, string_bytes};
 ghost use Rattle.std.specs.Option.{option_copied};
 ghost use Rattle.std.specs.Cmp.Lexicographic.{pointwise};
-ghost use Rattle.krb_types.specs.NameReading.{octets, option_octets, principal_in};
+ghost use Rattle.krb_messages.specs.NameReading.{octets, option_octets, principal_in};
 ghost use Rattle.krb_commands.specs.Arguments.{IsGivenMoment, IsNoMoment, IsStopOf, Text, is_among, only_value, parts_after, parts_of, texts, values_of};
 ghost use Rattle.krb_commands.specs.Given.{parts};
 ghost use Rattle.krb_commands.specs.Stops.{IsUsage};
 
 use crate::stop::{Stop, usage};
+use krb_messages::{NameTextFault, PrincipalText, principal_of_text};
 use krb_programs::{ArgumentsFault, read_arguments};
 use krb_time::Moment;
-use krb_types::{NameTextFault, PrincipalText, principal_of_text};
 use std::alloc::{AllocError, Global};
 
 /// The arguments after the program's name. One that is no text is refused.

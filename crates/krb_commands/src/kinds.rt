@@ -2,7 +2,7 @@
 ghost use Rattle.std.specs.Prelude.{◌≡◌, ◌≤◌, false, length};
 ghost use Rattle.krb_commands.specs.Kinds.{all_joined, behind_comments, is_accounts, is_cache, is_database, is_header};
 
-use byte_layouts::u32_le;
+use byte_streams::u32_le;
 use cdb::{HEADER_SIZE, PAIR_SIZE, TABLES};
 use std::fmt;
 

@@ -1,19 +1,20 @@
-//! What the programs for administrators and users have in common: their arguments, why one of them stopped, and files that are written
-//! whole or not at all.
+//! What the programs for administrators and users have in common: their arguments, why one of them stopped, files that are written
+//! whole or not at all, and the configuration that a machine has in /etc/krb5.conf (MIT's form, which Heimdal shares).
 //!
 //! [`given_of`] takes options, their values and the other words apart. [`Stop`] is one line for standard error, which shows no secret, and
 //! the status of the program. A request of a client takes its random octets of a [`RandomFile`], and its moment of [`moment_or_now`].
 //!
-//! [`begin`] makes a new file beside the one whose place it is to take, under a name of its own, and `NewFile::finish` puts it there once it
-//! is on disk. So the path has the old file or the new one at each moment. The old file is locked meanwhile: another run waits for up to ten
-//! seconds. It is replaced only where it is of its [`FileKind`] or empty, and none of the files that the command reads. [`octets_of`] reads a
-//! file up to the limit of its kind. [`Printable`] and [`PrintableName`] show what comes from files and peers.
+//! [`begin`] makes a new file beside the one whose place it is to take, under a name of its own, and `NewFile::finish` puts it there once
+//! it is on disk. So the path has the old file or the new one at each moment. The old file is locked meanwhile: another run waits for up to
+//! ten seconds. It is replaced only where it is of its [`FileKind`] or empty, and none of the files that the command reads. [`octets_of`]
+//! reads a file up to the limit of its kind. [`Printable`] and [`PrintableName`] show what comes from files and peers.
 //!
 //! Each call is safe and returns. `limit` and `has_front` of `FileKind` are `limit_of` and `is_of_kind`. `Printable` and `PrintableName`
 //! print `printable_text` and `printable_name`. `given_of` takes arguments apart, or refuses them in a text, both as `parts_of` says.
-//! `Given` has the words and values of those parts. `principal_in` reads a name as `krb_types` does, and refuses only what isn't one. A
-//! `Stop` has the text of `stop_text` and the status of `status_of`. No contract says what files, the program's arguments and standard
-//! output hold.
+//! `Given` has the words and values of those parts. `principal_in` reads a name as `principal_of_text` does, and refuses only what isn't
+//! one. A `Stop` has the text of `stop_text` and the status of `status_of`. No contract says what files, the program's arguments and
+//! standard output hold. `default_realm_in` returns the realm that a text names by `default_realm` in its section `[libdefaults]`, as
+//! `default_realm_in` of `specs/` says. It returns, and its only refusal is of memory.
 #![tactic(auto)]
 
 mod arguments;
@@ -24,6 +25,7 @@ mod output;
 mod places;
 mod printable;
 mod reading;
+mod realms;
 mod requests;
 mod stop;
 
@@ -33,5 +35,6 @@ pub use kinds::{ACCOUNTS_LIMIT, FileKind, KEYS_LIMIT, SMALL_LIMIT};
 pub use output::{print_line, print_version};
 pub use printable::{Printable, PrintableName, printable_of};
 pub use reading::{is_there, keytab_in, octets_of, read_input, unread};
+pub use realms::default_realm_in;
 pub use requests::{RandomFile, WORDS_TAKEN, moment_or_now};
 pub use stop::{Stop, failed, refused, usage};

@@ -1,6 +1,6 @@
 //! Octets of files and peers, as a line shows them.
 ghost use Rattle.std.specs.Prelude.{◌≡◌, ◌<◌, IfOk, IfSome, string_bytes};
-ghost use Rattle.krb_types.specs.NameText.{escape_letter};
+ghost use Rattle.krb_messages.specs.NameText.{escape_letter};
 ghost use Rattle.krb_commands.specs.Printable.{hex_digit, is_printable, printable_text};
 
 use picky_asn1::wrapper::GeneralStringAsn1;

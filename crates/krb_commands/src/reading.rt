@@ -2,7 +2,7 @@
 
 use crate::kinds::FileKind;
 use crate::stop::{Stop, failed, refused};
-use krb_keytabs::{Keytab, KeytabFault};
+use krb_file_formats::{Keytab, KeytabFault};
 use krb_programs::read_front;
 use std::alloc::Global;
 use std::fs::{self, FileType, Metadata};

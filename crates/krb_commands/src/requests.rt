@@ -2,8 +2,7 @@
 ghost use Rattle.std.specs.Prelude.{◌≡◌, Ok, IfOk, IfSome, length};
 
 use crate::stop::{Stop, failed};
-use krb_clock::now;
-use krb_time::Moment;
+use krb_time::{Moment, now};
 use std::alloc::Global;
 use std::fs::{self, File};
 use std::io::Read;

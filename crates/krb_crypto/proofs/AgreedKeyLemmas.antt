@@ -3,8 +3,8 @@ use Rattle.std.proofs.Common.{◌≡◌, ◌<◌, ℕ, zero, suc, ◌*◌, List,
 use Rattle.std.proofs.lemmas.List.{length-append, length-take-le}
 use Rattle.std.specs.Int.{div_ceil, to_be_bytes, w32}
 use Rattle.sha1.specs.Sha1.{digest_bytes, sha1}
-use Rattle.aes_cts.specs.Bytes.{IsBytes}
-use Rattle.aes_cts.proofs.States.{IsBytes-append, IsBytes-from_below, IsBytes-none, IsBytes-take}
+use Rattle.block_ciphers.specs.Bytes.{IsBytes}
+use Rattle.block_ciphers.proofs.States.{IsBytes-append, IsBytes-from_below, IsBytes-none, IsBytes-take}
 use Rattle.krb_crypto.specs.declared.suite.CipherSuite.{CipherSuite}
 use Rattle.krb_crypto.specs.declared.suite.CipherSuite.TheVariants.{Aes128CtsHmacSha196, Aes256CtsHmacSha196, Des3CbcSha1Kd, Aes128CtsHmacSha256128, Aes256CtsHmacSha384192}
 use Rattle.krb_crypto.specs.Suites.{cipher_key_size, cipher_seed_bits, cipher_seed_size}

@@ -1,12 +1,12 @@
 -- The suites, their numbers and sizes.
 use Rattle.std.specs.Prelude.{◌≡◌, ◌≢◌, ℕ, ◌*◌, List, [], ◌∷◌, length, Result, MatchResult}
-use Rattle.aes_cts.specs.declared.aes.AesSize.TheVariants.{Aes128, Aes256}
-use Rattle.aes_cts.specs.declared.error.KerberosCryptoError.{KerberosCryptoError}
-use Rattle.aes_cts.specs.declared.error.KerberosCryptoError.TheVariants.{AlgorithmIdentifier, AlgorithmIdentifierData}
-use Rattle.krb_profile.specs.Profile.{Profile}
-use Rattle.krb_aes.specs.Suites.{aes_profile}
-use Rattle.krb_aes_sha2.specs.Suites.{aes_sha2_profile}
-use Rattle.krb_des3.specs.Suite.{des3_profile}
+use Rattle.block_ciphers.specs.declared.aes.AesSize.TheVariants.{Aes128, Aes256}
+use Rattle.block_ciphers.specs.declared.error.KerberosCryptoError.{KerberosCryptoError}
+use Rattle.block_ciphers.specs.declared.error.KerberosCryptoError.TheVariants.{AlgorithmIdentifier, AlgorithmIdentifierData}
+use Rattle.encryption_profiles.specs.Profile.{Profile}
+use Rattle.encryption_profiles.specs.AesSuites.{aes_profile}
+use Rattle.encryption_profiles.specs.AesSha2Suites.{aes_sha2_profile}
+use Rattle.encryption_profiles.specs.Suite.{des3_profile}
 use Rattle.krb_constants.specs.declared.etypes.TheConstants.{AES128_CTS_HMAC_SHA1_96, AES128_CTS_HMAC_SHA256_128, AES256_CTS_HMAC_SHA1_96, AES256_CTS_HMAC_SHA384_192, DES3_CBC_SHA1_KD}
 use Rattle.krb_constants.specs.declared.cksum_types.TheConstants.{HMAC_SHA1_96_AES128, HMAC_SHA1_96_AES256, HMAC_SHA1_DES3_KD, HMAC_SHA256_128_AES128, HMAC_SHA384_192_AES256}
 use Rattle.krb_crypto.specs.declared.family.Family.{Family}

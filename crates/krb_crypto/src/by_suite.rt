@@ -7,12 +7,11 @@ ghost use Rattle.krb_crypto.specs.Suites.{checksum_key_size, cipher_checksum, ci
 use crate::cipher::{Checksum, Cipher};
 use crate::family::Family;
 use crate::suite::{ChecksumSuite, CipherSuite};
-use aes_cts::{AES_BLOCK_SIZE, KerberosCryptoResult};
-use des3_cbc::{DES3_BLOCK_SIZE, DES3_SEED_LEN};
-use krb_aes::checksum_sha_aes;
-use krb_aes_sha2::checksum_sha2;
-use krb_des3::checksum_sha_des3;
-use krb_profile::{DecryptWithoutChecksum, EncryptWithoutChecksum};
+use block_ciphers::{AES_BLOCK_SIZE, DES3_BLOCK_SIZE, DES3_SEED_LEN, KerberosCryptoResult};
+use encryption_profiles::aes::checksum_sha_aes;
+use encryption_profiles::aes_sha2::checksum_sha2;
+use encryption_profiles::des3::checksum_sha_des3;
+use encryption_profiles::{DecryptWithoutChecksum, EncryptWithoutChecksum};
 use std::alloc::Global;
 
 impl CipherSuite {
@@ -117,7 +116,7 @@ impl Cipher for CipherSuite {
         confounder: &[u8],
     ) -> KerberosCryptoResult<Vec<u8>> {
         match self.family() {
-            Family::Aes(size) => krb_aes::encrypt_message(
+            Family::Aes(size) => encryption_profiles::aes::encrypt_message(
                 alloc,
                 key,
                 key_usage,
@@ -126,9 +125,15 @@ impl Cipher for CipherSuite {
                 block_of(confounder),
             ),
             Family::TripleDes => {
-                krb_des3::encrypt_message(alloc, key, key_usage, payload, block_of(confounder))
+                encryption_profiles::des3::encrypt_message(
+                    alloc,
+                    key,
+                    key_usage,
+                    payload,
+                    block_of(confounder),
+                )
             }
-            Family::AesSha2(size) => krb_aes_sha2::encrypt_message(
+            Family::AesSha2(size) => encryption_profiles::aes_sha2::encrypt_message(
                 alloc,
                 key,
                 key_usage,
@@ -148,11 +153,22 @@ impl Cipher for CipherSuite {
     ) -> KerberosCryptoResult<Vec<u8>> {
         match self.family() {
             Family::Aes(size) => {
-                krb_aes::decrypt_message(alloc, key, key_usage, cipher_data, &size)
+                encryption_profiles::aes::decrypt_message(alloc, key, key_usage, cipher_data, &size)
             }
-            Family::TripleDes => krb_des3::decrypt_message(alloc, key, key_usage, cipher_data),
+            Family::TripleDes => encryption_profiles::des3::decrypt_message(
+                alloc,
+                key,
+                key_usage,
+                cipher_data,
+            ),
             Family::AesSha2(size) => {
-                krb_aes_sha2::decrypt_message(alloc, key, key_usage, cipher_data, &size)
+                encryption_profiles::aes_sha2::decrypt_message(
+                    alloc,
+                    key,
+                    key_usage,
+                    cipher_data,
+                    &size,
+                )
             }
         }
     }
@@ -166,7 +182,7 @@ impl Cipher for CipherSuite {
         confounder: &[u8],
     ) -> KerberosCryptoResult<EncryptWithoutChecksum> {
         match self.family() {
-            Family::Aes(size) => krb_aes::encrypt_message_no_checksum(
+            Family::Aes(size) => encryption_profiles::aes::encrypt_message_no_checksum(
                 alloc,
                 key,
                 key_usage,
@@ -174,14 +190,14 @@ impl Cipher for CipherSuite {
                 &size,
                 block_of(confounder),
             ),
-            Family::TripleDes => krb_des3::encrypt_message_no_checksum(
+            Family::TripleDes => encryption_profiles::des3::encrypt_message_no_checksum(
                 alloc,
                 key,
                 key_usage,
                 payload,
                 block_of(confounder),
             ),
-            Family::AesSha2(size) => krb_aes_sha2::encrypt_message_no_checksum(
+            Family::AesSha2(size) => encryption_profiles::aes_sha2::encrypt_message_no_checksum(
                 alloc,
                 key,
                 key_usage,
@@ -201,13 +217,30 @@ impl Cipher for CipherSuite {
     ) -> KerberosCryptoResult<DecryptWithoutChecksum> {
         match self.family() {
             Family::Aes(size) => {
-                krb_aes::decrypt_message_no_checksum(alloc, key, key_usage, cipher_data, &size)
+                encryption_profiles::aes::decrypt_message_no_checksum(
+                    alloc,
+                    key,
+                    key_usage,
+                    cipher_data,
+                    &size,
+                )
             }
             Family::TripleDes => {
-                krb_des3::decrypt_message_no_checksum(alloc, key, key_usage, cipher_data)
+                encryption_profiles::des3::decrypt_message_no_checksum(
+                    alloc,
+                    key,
+                    key_usage,
+                    cipher_data,
+                )
             }
             Family::AesSha2(size) => {
-                krb_aes_sha2::decrypt_message_no_checksum(alloc, key, key_usage, cipher_data, &size)
+                encryption_profiles::aes_sha2::decrypt_message_no_checksum(
+                    alloc,
+                    key,
+                    key_usage,
+                    cipher_data,
+                    &size,
+                )
             }
         }
     }
@@ -221,11 +254,15 @@ impl Cipher for CipherSuite {
     ) -> KerberosCryptoResult<Vec<u8>> {
         match self.family() {
             Family::Aes(size) => {
-                krb_aes::encryption_checksum(alloc, key, key_usage, payload, &size)
+                encryption_profiles::aes::encryption_checksum(alloc, key, key_usage, payload, &size)
             }
-            Family::TripleDes => krb_des3::encryption_checksum(alloc, key, key_usage, payload),
+            Family::TripleDes => encryption_profiles::des3::encryption_checksum(
+                alloc, key, key_usage, payload,
+            ),
             Family::AesSha2(size) => {
-                krb_aes_sha2::encryption_checksum(alloc, key, key_usage, payload, &size)
+                encryption_profiles::aes_sha2::encryption_checksum(
+                    alloc, key, key_usage, payload, &size,
+                )
             }
         }
     }
@@ -237,19 +274,25 @@ impl Cipher for CipherSuite {
         salt: &[u8],
     ) -> KerberosCryptoResult<Vec<u8>> {
         match self.family() {
-            Family::Aes(size) => krb_aes::derive_key_from_password(alloc, password, salt, &size),
-            Family::TripleDes => krb_des3::derive_key_from_password(alloc, password, salt),
+            Family::Aes(size) => encryption_profiles::aes::derive_key_from_password(
+                alloc, password, salt, &size,
+            ),
+            Family::TripleDes => encryption_profiles::des3::derive_key_from_password(
+                alloc, password, salt,
+            ),
             Family::AesSha2(size) => {
-                krb_aes_sha2::derive_key_from_password(alloc, password, salt, &size)
+                encryption_profiles::aes_sha2::derive_key_from_password(
+                    alloc, password, salt, &size,
+                )
             }
         }
     }
 
     fn random_to_key(&self, alloc: Global, seed: &[u8]) -> KerberosCryptoResult<Vec<u8>> {
         let key = match self.family() {
-            Family::Aes(_) => krb_aes::random_to_key(alloc, seed)?,
-            Family::TripleDes => krb_des3::random_to_key(alloc, seed)?,
-            Family::AesSha2(_) => krb_aes_sha2::random_to_key(alloc, seed)?,
+            Family::Aes(_) => encryption_profiles::aes::random_to_key(alloc, seed)?,
+            Family::TripleDes => encryption_profiles::des3::random_to_key(alloc, seed)?,
+            Family::AesSha2(_) => encryption_profiles::aes_sha2::random_to_key(alloc, seed)?,
         };
         Ok(key)
     }

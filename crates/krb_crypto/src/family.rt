@@ -4,7 +4,7 @@ ghost use Rattle.std.specs.Prelude.{◌≡◌};
 ghost use Rattle.krb_crypto.specs.Suites.{checksum_cipher, cipher_family};
 
 use crate::suite::{ChecksumSuite, CipherSuite};
-use aes_cts::AesSize;
+use block_ciphers::AesSize;
 
 /// The families, each with the size of the keys where it has two (RFC 3962; RFC 3961, section 6.3; RFC 8009).
 #[derive(Clone, Copy)]

@@ -3,8 +3,7 @@
 ghost use Rattle.std.specs.Prelude.{◌≡◌};
 ghost use Rattle.krb_crypto.specs.Suites.{IsChecksumOf, IsCipherOf, IsCipherOfByte, checksum_number, checksum_suites, cipher_key_size, cipher_number, cipher_suites};
 
-use aes_cts::{AES128_KEY_SIZE, AES256_KEY_SIZE, KerberosCryptoError};
-use des3_cbc::DES3_KEY_SIZE;
+use block_ciphers::{AES128_KEY_SIZE, AES256_KEY_SIZE, DES3_KEY_SIZE, KerberosCryptoError};
 use krb_constants::{cksum_types, etypes};
 
 /// The ways to encrypt (RFC 3962, section 7; RFC 3961, section 6.3; RFC 8009, section 5).

@@ -8,8 +8,8 @@ ghost use Rattle.krb_crypto.specs.declared.suite.CipherSuite.{CipherSuite};
 
 use crate::cipher::{Checksum, Cipher};
 use crate::suite::{ChecksumSuite, CipherSuite};
-use aes_cts::KerberosCryptoResult;
-use krb_profile::{DecryptWithoutChecksum, EncryptWithoutChecksum};
+use block_ciphers::KerberosCryptoResult;
+use encryption_profiles::{DecryptWithoutChecksum, EncryptWithoutChecksum};
 use std::alloc::Global;
 
 /// A type that represents one cipher suite.

@@ -5,7 +5,7 @@
 //! With `--log` each message has one line on standard error, which is written before its reply. It refuses random octets that are none: a
 //! regular file, or one octet repeated. It warns where others may use the database.
 //!
-//! The loop is [`serve_by_clock`](krb_programs::serve_by_clock). With [`FileRealm`](krb_file_realms::FileRealm) each reply is that of the
+//! The loop is [`serve_by_clock`](krb_programs::serve_by_clock). With [`FileRealm`](krb_realm_files::FileRealm) each reply is that of the
 //! realm of one opened file, where its octets are known: those of a file of the system aren't. [`command_of`] returns what the arguments ask
 //! for, as `command_in` says. A [`Stop`] is displayed as `stop_text`, where it shows no fault of the system's files. [`serve_database`] reads
 //! and writes nothing of its streams where it stops with status 1. What it serves, and [`run_process`], have no contract: they are proved

@@ -2,9 +2,9 @@
 ghost use Rattle.std.specs.Prelude.{◌≡◌};
 ghost use Rattle.krb_database_kdc.specs.Stops.{serving_text};
 
-use krb_file_realms::FileFault;
 use krb_frames::ServeFault;
 use krb_programs::ArgumentsFault;
+use krb_realm_files::FileFault;
 use std::alloc::AllocError;
 use std::fmt;
 use std::io::ErrorKind;

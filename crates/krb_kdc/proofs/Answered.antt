@@ -3,15 +3,15 @@ use Rattle.std.proofs.Common.{◌≡◌, ℕ, List, Option, None, Some, refl, sy
 use Rattle.krb_accounts.specs.Accounts.{AccountMap, Look, look_in}
 use Rattle.krb_messages.specs.declared.messages.kdc_req.KdcReq.{KdcReq}
 use Rattle.krb_messages.specs.Messages.{IsAsReq, IsTgsReq, sole_tgs_req}
-use Rattle.krb_kdc_requests.specs.Call.{CallRecord}
-use Rattle.krb_kdc_requests.specs.Requests.{account_of, body_of, client_of, padata_in, service_of}
-use Rattle.pkinit_interface.specs.Rows.{PkinitRows}
-use Rattle.krb_types.specs.TicketGranting.{krbtgt_of}
-use Rattle.krb_replies.specs.Involved.{IsInvolved, IsOfInvolvedAlone}
-use Rattle.krb_replies.specs.Replies.{Replies, as_reply, tgs_reply}
-use Rattle.krb_tgs.specs.ByTicket.{IsInvolvedFurther}
-use Rattle.krb_types.specs.Names.{components}
-use Rattle.krb_types.specs.declared.data_types.principal_name.PrincipalName.{PrincipalName}
+use Rattle.krb_kdc_exchanges.specs.Call.{CallRecord}
+use Rattle.krb_kdc_exchanges.specs.Requests.{account_of, body_of, client_of, padata_in, service_of}
+use Rattle.krb_kdc_exchanges.specs.Rows.{PkinitRows}
+use Rattle.krb_messages.specs.TicketGranting.{krbtgt_of}
+use Rattle.krb_kdc_exchanges.specs.Involved.{IsInvolved, IsOfInvolvedAlone}
+use Rattle.krb_kdc_exchanges.specs.Replies.{Replies, as_reply, tgs_reply}
+use Rattle.krb_kdc_exchanges.specs.ByTicket.{IsInvolvedFurther}
+use Rattle.krb_messages.specs.Names.{components}
+use Rattle.krb_messages.specs.declared.data_types.principal_name.PrincipalName.{PrincipalName}
 use Rattle.krb_kdc.specs.declared.call.LookupCall.{LookupCall}
 use Rattle.krb_kdc.specs.Calls.{call_with}
 use Rattle.krb_kdc.specs.Few.{Knows}

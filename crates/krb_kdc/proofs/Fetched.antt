@@ -8,12 +8,12 @@ use Rattle.std.specs.declared.cmp.Ordering.TheVariants.{Less, Equal, Greater}
 use Rattle.picky_asn1.specs.Bytes.{Bytes}
 use Rattle.krb_accounts.specs.Account.{AccountRecord}
 use Rattle.krb_accounts.specs.Accounts.{AccountMap, Look, look_in, name_apart, name_cmp, name_total}
-use Rattle.krb_types.specs.Names.{components}
-use Rattle.krb_types.specs.declared.data_types.principal_name.PrincipalName.{PrincipalName}
+use Rattle.krb_messages.specs.Names.{components}
+use Rattle.krb_messages.specs.declared.data_types.principal_name.PrincipalName.{PrincipalName}
 use Rattle.krb_kdc.specs.Few.{AreOf, IsFetched, Knows}
-use Rattle.krb_kdc_requests.specs.Requests.{body_of, padata_in, service_of}
+use Rattle.krb_kdc_exchanges.specs.Requests.{body_of, padata_in, service_of}
 use Rattle.krb_messages.specs.declared.messages.kdc_req.KdcReq.{KdcReq}
-use Rattle.krb_types.specs.declared.data_types.enc_ticket_part.EncTicketPartInner.{EncTicketPartInner}
+use Rattle.krb_messages.specs.declared.data_types.enc_ticket_part.EncTicketPartInner.{EncTicketPartInner}
 use Rattle.krb_kdc.specs.Involved.{IsNamedFetched, KnowsFurther, KnowsNamed}
 use Rattle.krb_kdc.specs.Tickets.{IsClientFetched, IsTicketOf}
 

@@ -1,6 +1,6 @@
 -- A call to a realm whose accounts are looked up.
 use Rattle.krb_accounts.specs.Accounts.{Look}
-use Rattle.krb_kdc_requests.specs.Call.{CallRecord}
+use Rattle.krb_kdc_exchanges.specs.Call.{CallRecord}
 use Rattle.krb_kdc.specs.declared.call.LookupCall as held
 
 -- The call to the realm with these accounts.

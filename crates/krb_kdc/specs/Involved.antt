@@ -2,11 +2,11 @@
 use Rattle.std.specs.Prelude.{List, Option, None, Some}
 use Rattle.picky_asn1.specs.Bytes.{Bytes}
 use Rattle.krb_accounts.specs.Accounts.{AccountMap, Look}
-use Rattle.krb_kdc_requests.specs.Requests.{body_of, padata_in, service_of}
+use Rattle.krb_kdc_exchanges.specs.Requests.{body_of, padata_in, service_of}
 use Rattle.krb_messages.specs.declared.messages.kdc_req.KdcReq.{KdcReq}
-use Rattle.krb_types.specs.Names.{components}
-use Rattle.krb_types.specs.declared.data_types.enc_ticket_part.EncTicketPartInner.{EncTicketPartInner}
-use Rattle.krb_types.specs.declared.data_types.principal_name.PrincipalName.{PrincipalName}
+use Rattle.krb_messages.specs.Names.{components}
+use Rattle.krb_messages.specs.declared.data_types.enc_ticket_part.EncTicketPartInner.{EncTicketPartInner}
+use Rattle.krb_messages.specs.declared.data_types.principal_name.PrincipalName.{PrincipalName}
 use Rattle.krb_kdc.specs.Few.{AreOf, Knows}
 use Rattle.krb_kdc.specs.Tickets.{IsTicketOf}
 

@@ -9,9 +9,9 @@ use Rattle.krb_constants.specs.declared.padata_types.TheConstants.{PA_TGS_REQ}
 use Rattle.krb_messages.specs.Messages.{IsApReq}
 use Rattle.krb_messages.specs.declared.messages.ap_req.ApReqInner.{ApReqInner}
 use Rattle.krb_tickets.specs.Padata.{first_of}
-use Rattle.krb_types.specs.Names.{components}
-use Rattle.krb_types.specs.declared.data_types.enc_ticket_part.EncTicketPartInner.{EncTicketPartInner}
-use Rattle.krb_types.specs.declared.data_types.pa_data.PaData.{PaData}
+use Rattle.krb_messages.specs.Names.{components}
+use Rattle.krb_messages.specs.declared.data_types.enc_ticket_part.EncTicketPartInner.{EncTicketPartInner}
+use Rattle.krb_messages.specs.declared.data_types.pa_data.PaData.{PaData}
 use Rattle.krb_kdc.specs.Few.{AreOf, Knows}
 
 -- The AP request of the first padata of its type has this ticket's part, sealed under the key of this name's account.

@@ -1,11 +1,11 @@
 //! Answers from accounts that are looked up.
 ghost use Rattle.std.specs.Prelude.{IfErr, IfOk, OnOk};
 ghost use Rattle.std.specs.Option.{option_copied};
-ghost use Rattle.krb_types.specs.RandomBytes.{AreEnoughForReply};
+ghost use Rattle.krb_messages.specs.RandomBytes.{AreEnoughForReply};
 ghost use Rattle.krb_accounts.specs.Accounts.{Look};
-ghost use Rattle.krb_kdc_requests.specs.Requests.{body_of, client_of, service_of};
-ghost use Rattle.krb_types.specs.TicketGranting.{krbtgt_of};
-ghost use Rattle.krb_replies.specs.Replies.{Replies};
+ghost use Rattle.krb_kdc_exchanges.specs.Requests.{body_of, client_of, service_of};
+ghost use Rattle.krb_messages.specs.TicketGranting.{krbtgt_of};
+ghost use Rattle.krb_kdc_exchanges.specs.Replies.{Replies};
 ghost use Rattle.krb_kdc.specs.Answers.{IsAnswerBy, MayRefuse};
 ghost use Rattle.krb_kdc.specs.Calls.{call_with};
 ghost use Rattle.krb_kdc.specs.Faults.{MayFail};
@@ -18,19 +18,19 @@ use crate::few::fetch;
 use crate::lookup::Lookup;
 use crate::ticket::fetch_client;
 use krb_accounts::Accounts;
-use krb_kdc_requests::{client_of, read_as_req, read_tgs_req, service_of};
+use krb_kdc_exchanges::laws::of_involved_alone;
+use krb_kdc_exchanges::{
+    Pkinit, as_reply, client_of, read_as_req, read_tgs_req, service_of, tgs_reply,
+};
+use krb_messages::data_types::PrincipalName;
+use krb_messages::krbtgt_of;
 use krb_messages::messages::KdcReq;
-use krb_replies::laws::of_involved_alone;
-use krb_replies::{as_reply, tgs_reply};
-use krb_types::data_types::PrincipalName;
-use krb_types::krbtgt_of;
 use picky_asn1::wrapper::GeneralStringAsn1;
-use pkinit_interface::Pkinit;
 use std::alloc::Global;
 
 /// Returns the reply to a message, of a realm whose accounts are looked up (RFC 4120, sections 3.1 and 3.3). It is the reply of the realm
 /// with all accounts that `lookup` holds, though at most three are looked up. There is exactly one: [`has_reply`](crate::laws::has_reply), and
-/// `one_reply` of `krb_replies`.
+/// `one_reply` of `krb_kdc_exchanges`.
 ///
 /// `Unreadable` says that the bytes are the one encoding of no AS request and of no TGS request. If they begin with the identifier octet
 /// of neither, that is answered with no look-up, and however little memory there is. `Fault` says that an account was not looked up, or

@@ -1,6 +1,6 @@
 //! A call to a realm whose accounts are looked up.
 use krb_accounts::{Accounts, Settings};
-use krb_kdc_requests::Call;
+use krb_kdc_exchanges::Call;
 use krb_time::Moment;
 use picky_asn1::wrapper::GeneralStringAsn1;
 
@@ -21,7 +21,7 @@ pub struct LookupCall<'a> {
 impl LookupCall<'_> {
     ghost use Rattle.std.specs.Prelude.{◌≡◌};
     ghost use Rattle.krb_accounts.specs.Accounts.{look_in};
-    ghost use Rattle.krb_kdc_requests.specs.Call.{call_of};
+    ghost use Rattle.krb_kdc_exchanges.specs.Call.{call_of};
     ghost use Rattle.krb_kdc.specs.Calls.{call_with};
 
     /// Returns the call to the realm with these accounts.

@@ -2,12 +2,12 @@
 //! of a database, a directory.
 //!
 //! A request involves at most three accounts. [`answer_by`] looks these up and no others. [`Lookup`] is what holds them, and
-//! [`Pkinit`](pkinit_interface::Pkinit) judges requests by certificate. `krb_memory_realms` and `krb_file_realms` have realms over it.
+//! [`Pkinit`](krb_kdc_exchanges::Pkinit) judges requests by certificate. `krb_memory_realms` and `krb_realm_files` have realms over it.
 //!
 //! A reply of `answer_by` is that of the realm with all accounts that the `Lookup` holds. `Unreadable` is returned only for a message that
 //! is no request, and `Fault` only for bytes that begin one (`BeginsRequest`). An account that can't be read is a fault, and neither a
 //! missing account nor a KRB-ERROR. Accounts in memory can always be read. Each request has a reply (law `has_reply`), by `one_reply` of
-//! `krb_replies` exactly one.
+//! `krb_kdc_exchanges` exactly one.
 #![tactic(auto)]
 
 mod answer;

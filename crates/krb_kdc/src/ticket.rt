@@ -4,7 +4,7 @@ ghost use Rattle.krb_accounts.specs.Accounts.{Look};
 ghost use Rattle.krb_ap_requests.specs.ApTable.{enc_part_in};
 ghost use Rattle.krb_ap_requests.specs.Messages.{IsTicketPart};
 ghost use Rattle.picky_asn1_der.specs.Found.{IsFound};
-ghost use Rattle.krb_kdc_requests.specs.Requests.{padata_in};
+ghost use Rattle.krb_kdc_exchanges.specs.Requests.{padata_in};
 ghost use Rattle.krb_kdc.specs.Faults.{MayFail};
 ghost use Rattle.krb_kdc.specs.Tickets.{IsClientFetched, IsTicketOf};
 
@@ -14,11 +14,11 @@ use crate::lookup::Lookup;
 use krb_accounts::{Account, Accounts};
 use krb_ap_requests::{enc_part_in, open_ticket, read_ap_req};
 use krb_constants::padata_types::PA_TGS_REQ;
-use krb_kdc_requests::padata_in;
+use krb_kdc_exchanges::padata_in;
+use krb_messages::Refusal;
+use krb_messages::data_types::{EncTicketPartInner, PaData};
 use krb_messages::messages::{ApReqInner, KdcReq};
 use krb_tickets::first_of;
-use krb_types::Refusal;
-use krb_types::data_types::{EncTicketPartInner, PaData};
 use picky_asn1::wrapper::GeneralStringAsn1;
 use std::alloc::{AllocError, Global};
 

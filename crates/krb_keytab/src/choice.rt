@@ -2,8 +2,8 @@
 
 use krb_account_texts::suite_named;
 use krb_commands::{Stop, given_of, principal_in, refused, usage};
-use krb_keytabs::KeytabRecord;
-use krb_types::PrincipalText;
+use krb_file_formats::KeytabRecord;
+use krb_messages::PrincipalText;
 use picky_asn1::wrapper::GeneralStringAsn1;
 use std::alloc::Global;
 

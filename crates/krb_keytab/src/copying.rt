@@ -2,7 +2,7 @@
 
 use crate::choice::{Choice, choice_of};
 use krb_commands::{Stop, begin_first, keytab_in, refused};
-use krb_keytabs::{Keytab, KeytabRecord, KeytabWriteFault};
+use krb_file_formats::{Keytab, KeytabRecord, KeytabWriteFault};
 use std::alloc::Global;
 
 /// `copy FROM TO [--kvno N] [--etype ETYPE] [PRINCIPAL ..]`: writes the chosen entries of a keytab to a new one, in their order.

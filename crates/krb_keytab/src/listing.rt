@@ -1,11 +1,11 @@
 //! The command `list`.
 
 use crate::mit::stop_of;
-use krb_clock::after_epoch;
 use krb_commands::{PrintableName, Stop, failed, keytab_in};
 use krb_crypto::CipherSuite;
-use krb_keytabs::KeytabRecord;
+use krb_file_formats::KeytabRecord;
 use krb_settings::suite_name;
+use krb_time::after_epoch;
 use std::alloc::{AllocError, Global};
 
 /// `list FILE`: prints the kvno, the time, the principal and the etype of each entry, and whether MIT's library reads it.

@@ -8,8 +8,8 @@ use Rattle.std.specs.List.{flat_map}
 use Rattle.std.proofs.lemmas.Bool.{and_parts, eqb-true, ltb-true}
 use Rattle.std.proofs.lemmas.List.{append_assoc}
 use Rattle.std.proofs.lemmas.List.Concat.{flat_map-cons}
-use Rattle.aes_cts.proofs.AllBytes.{all_below, all_below_at}
-use Rattle.krb_types.specs.NameReading.{is_ascii}
+use Rattle.block_ciphers.proofs.AllBytes.{all_below, all_below_at}
+use Rattle.krb_messages.specs.NameReading.{is_ascii}
 use Rattle.krb_log.specs.NameText.{component_text, escaped}
 
 -- a reader of what is shown: between characters, after a backslash, after `\x`, or after one of its digits

@@ -7,8 +7,8 @@ use Rattle.std.specs.List.{flat_map, list_all}
 use Rattle.std.proofs.lemmas.Bool.{and_parts, ltb-true}
 use Rattle.std.proofs.lemmas.List.Concat.{flat_map-cons}
 use Rattle.std.proofs.lemmas.List.Folds.{list_all-append}
-use Rattle.aes_cts.proofs.AllBytes.{all_below, all_below_at}
-use Rattle.krb_types.specs.NameReading.{are_ascii, is_ascii}
+use Rattle.block_ciphers.proofs.AllBytes.{all_below, all_below_at}
+use Rattle.krb_messages.specs.NameReading.{are_ascii, is_ascii}
 use Rattle.krb_log.specs.NameText.{IsVisible, component_text, escaped, name_text, principal_text, shown_name}
 use Rattle.krb_log.specs.declared.name.TheConstants.{LONG_NAME, NAME_ROOM}
 

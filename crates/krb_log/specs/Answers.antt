@@ -6,7 +6,7 @@ use Rattle.krb_frames.specs.declared.fault.AnswerRefusal.{AnswerRefusal}
 use Rattle.krb_messages.specs.Messages.{IsAsRep, IsKrbError, IsTgsRep}
 use Rattle.krb_messages.specs.declared.messages.kdc_rep.KdcRep.{KdcRep}
 use Rattle.krb_messages.specs.declared.messages.krb_error.KrbErrorInner.{KrbErrorInner}
-use Rattle.krb_types.specs.Names.{components}
+use Rattle.krb_messages.specs.Names.{components}
 use Rattle.krb_log.specs.NameText.{shown_name}
 use Rattle.krb_log.specs.declared.answer.Answer.{Answer}
 use Rattle.krb_log.specs.declared.answer.Answer.TheVariants.{Ticket, Error, Other, Refused}

@@ -6,12 +6,12 @@ use Rattle.picky_asn1.specs.Bytes.{Bytes}
 use Rattle.krb_messages.specs.Messages.{IsAsReq, IsTgsReq}
 use Rattle.krb_messages.specs.declared.messages.kdc_req.KdcReq.{KdcReq}
 use Rattle.krb_messages.specs.declared.messages.kdc_req_body.KdcReqBody.{KdcReqBody}
-use Rattle.krb_types.specs.Names.{components}
-use Rattle.krb_types.specs.declared.data_types.pa_data.PaData.{PaData}
-use Rattle.krb_types.specs.declared.data_types.principal_name.PrincipalName.{PrincipalName}
+use Rattle.krb_messages.specs.Names.{components}
+use Rattle.krb_messages.specs.declared.data_types.pa_data.PaData.{PaData}
+use Rattle.krb_messages.specs.declared.data_types.principal_name.PrincipalName.{PrincipalName}
 use Rattle.krb_constants.specs.declared.padata_types.TheConstants.{PA_ENC_TIMESTAMP, PA_PK_AS_REQ}
 use Rattle.krb_tickets.specs.Padata.{first_of}
-use Rattle.krb_kdc_requests.specs.Requests.{body_of, client_of, padata_in, service_of}
+use Rattle.krb_kdc_exchanges.specs.Requests.{body_of, client_of, padata_in, service_of}
 use Rattle.krb_log.specs.NameText.{shown_name}
 use Rattle.krb_log.specs.declared.asked.Asked.{Asked}
 use Rattle.krb_log.specs.declared.asked.Asked.TheVariants.{As, Tgs, Nothing}

@@ -8,15 +8,15 @@ use Rattle.krb_ap_requests.specs.ApTable.{enc_part_in}
 use Rattle.krb_ap_requests.specs.Messages.{IsTicketPart, sole_ticket_part}
 use Rattle.krb_constants.specs.declared.error_codes.TheConstants.{KDC_ERR_PREAUTH_FAILED, KRB_AP_ERR_BAD_INTEGRITY}
 use Rattle.krb_constants.specs.declared.padata_types.TheConstants.{PA_TGS_REQ}
-use Rattle.krb_kdc_requests.specs.Requests.{account_of, body_of, client_of, padata_in}
+use Rattle.krb_kdc_exchanges.specs.Requests.{account_of, body_of, client_of, padata_in}
 use Rattle.krb_messages.specs.Messages.{IsApReq, IsAsReq, IsTgsReq, sole_ap_req, sole_as_req, sole_tgs_req}
 use Rattle.krb_messages.specs.declared.messages.ap_req.ApReqInner.{ApReqInner}
 use Rattle.krb_messages.specs.declared.messages.kdc_req.KdcReq.{KdcReq}
 use Rattle.krb_tickets.specs.Padata.{first_of}
-use Rattle.krb_types.specs.Names.{components}
-use Rattle.krb_types.specs.TicketGranting.{krbtgt_of}
-use Rattle.krb_types.specs.declared.data_types.enc_ticket_part.EncTicketPartInner.{EncTicketPartInner}
-use Rattle.krb_types.specs.declared.data_types.encrypted_data.EncryptedData.{EncryptedData}
+use Rattle.krb_messages.specs.Names.{components}
+use Rattle.krb_messages.specs.TicketGranting.{krbtgt_of}
+use Rattle.krb_messages.specs.declared.data_types.enc_ticket_part.EncTicketPartInner.{EncTicketPartInner}
+use Rattle.krb_messages.specs.declared.data_types.encrypted_data.EncryptedData.{EncryptedData}
 use Rattle.krb_log.specs.NameText.{shown_name}
 use Rattle.krb_log.specs.Reasons.{authenticator_reason, of_integrity, preauthentication_reason}
 use Rattle.krb_log.specs.declared.explanation.Explanation.{Explanation}

@@ -15,18 +15,18 @@ use Rattle.krb_constants.specs.declared.error_codes.TheConstants.{KRB_AP_ERR_BAD
 use Rattle.krb_constants.specs.declared.key_usages.TheConstants.{TGS_REQ_PA_DATA_AP_REQ_AUTHENTICATOR}
 use Rattle.krb_constants.specs.declared.padata_types.TheConstants.{PA_ENC_TIMESTAMP, PA_PK_AS_REQ}
 use Rattle.krb_crypto.specs.Suites.{cipher_number}
-use Rattle.krb_encrypted_data.specs.Keys.{suite_of}
-use Rattle.krb_kdc_requests.specs.Requests.{body_of, padata_in}
+use Rattle.krb_tickets.specs.Keys.{suite_of}
+use Rattle.krb_kdc_exchanges.specs.Requests.{body_of, padata_in}
 use Rattle.krb_messages.specs.declared.messages.kdc_req.KdcReq.{KdcReq}
 use Rattle.krb_tickets.specs.EncryptedTimestamps.{IsEncryptedTimestamp, moment_of, sole_encrypted_timestamp}
 use Rattle.krb_tickets.specs.Padata.{first_of}
-use Rattle.krb_types.specs.Trees as held
-use Rattle.krb_types.specs.declared.data_types.encrypted_data.EncryptedData.{EncryptedData}
-use Rattle.krb_types.specs.declared.data_types.enc_ticket_part.EncTicketPartInner.{EncTicketPartInner}
-use Rattle.krb_types.specs.declared.data_types.pa_data.PaData.{PaData}
-use Rattle.krb_types.specs.declared.data_types.pa_enc_timestamp.PaEncTsEnc.{PaEncTsEnc}
-use Rattle.pkinit_requests.specs.Diagnoses.{fault_text, request_fault}
-use Rattle.pkinit_requests.specs.declared.fault.PkAsReqFault.{PkAsReqFault}
+use Rattle.krb_messages.specs.Trees as held
+use Rattle.krb_messages.specs.declared.data_types.encrypted_data.EncryptedData.{EncryptedData}
+use Rattle.krb_messages.specs.declared.data_types.enc_ticket_part.EncTicketPartInner.{EncTicketPartInner}
+use Rattle.krb_messages.specs.declared.data_types.pa_data.PaData.{PaData}
+use Rattle.krb_messages.specs.declared.data_types.pa_enc_timestamp.PaEncTsEnc.{PaEncTsEnc}
+use Rattle.pkinit_validation.specs.Diagnoses.{fault_text, request_fault}
+use Rattle.pkinit_validation.specs.declared.fault.PkAsReqFault.{PkAsReqFault}
 use Rattle.krb_log.specs.declared.reason.Reason.{Reason}
 use Rattle.krb_log.specs.declared.reason.Reason.TheVariants as reason
 

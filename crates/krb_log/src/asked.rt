@@ -5,10 +5,10 @@ ghost use Rattle.krb_messages.specs.Messages.{IsAsReq, IsTgsReq};
 
 use crate::name::shown_name;
 use krb_constants::padata_types::{PA_ENC_TIMESTAMP, PA_PK_AS_REQ};
-use krb_kdc_requests::padata_in;
+use krb_kdc_exchanges::padata_in;
+use krb_messages::data_types::PaData;
 use krb_messages::messages::{AsReq, KdcReq, TgsReq};
 use krb_tickets::first_of;
-use krb_types::data_types::PaData;
 use picky_asn1_der::read_whole;
 use std::alloc::{AllocError, Global};
 

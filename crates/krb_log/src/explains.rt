@@ -2,8 +2,7 @@
 
 use crate::explanation::{Explanation, explain};
 use cdb::ReadAt;
-use krb_account_files::{AccountFile, realm_of};
-use krb_file_realms::Opens;
+use krb_realm_files::{AccountFile, Opens, realm_of};
 use std::alloc::Global;
 
 /// What explains the refusals of a responder.

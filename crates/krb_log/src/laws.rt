@@ -1,6 +1,6 @@
 //! What holds of every name in a line. Each is a function that does nothing when it runs: its contract is the law.
 ghost use Rattle.std.specs.Prelude.{◌≡◌, ℕ, List, ◌∷◌, IsTrue};
-ghost use Rattle.krb_types.specs.NameReading.{are_ascii, is_ascii};
+ghost use Rattle.krb_messages.specs.NameReading.{are_ascii, is_ascii};
 ghost use Rattle.krb_log.specs.NameText.{IsVisible, component_text, shown_name};
 
 /// What is shown of a name has only printable ASCII characters, and no blank. So it is one word of its line, whatever the name is.

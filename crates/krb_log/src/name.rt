@@ -1,9 +1,9 @@
 //! Names in a line.
 ghost use Rattle.std.specs.Prelude.{◌≡◌, IfOk, string_bytes};
-ghost use Rattle.krb_types.specs.Names.{components};
+ghost use Rattle.krb_messages.specs.Names.{components};
 ghost use Rattle.krb_log.specs.NameText.{is_mark, shown_name};
 
-use krb_types::data_types::{KerberosStringAsn1, PrincipalName, Realm};
+use krb_messages::data_types::{KerberosStringAsn1, PrincipalName, Realm};
 use std::alloc::{AllocError, Global};
 use std::fmt;
 
@@ -39,7 +39,7 @@ struct Principal<'a> {
 
 impl<'a> fmt::Display for Principal<'a> {
     ghost use Rattle.std.specs.Prelude.{Some};
-    ghost use Rattle.krb_types.specs.Names.{components};
+    ghost use Rattle.krb_messages.specs.Names.{components};
     ghost use Rattle.krb_log.specs.NameText.{principal_text};
 
     ghost output = { λ principal. Some (principal_text (components principal.name.now) principal.realm.now) };

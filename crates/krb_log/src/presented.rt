@@ -11,13 +11,12 @@ use krb_ap_requests::{check_authenticator, read_ap_req};
 use krb_constants::error_codes::KRB_AP_ERR_BAD_INTEGRITY;
 use krb_constants::key_usages;
 use krb_constants::padata_types::PA_TGS_REQ;
-use krb_encrypted_data::suite_of;
 use krb_kdc::presented_part;
-use krb_kdc_requests::padata_in;
+use krb_kdc_exchanges::padata_in;
+use krb_messages::Refusal;
+use krb_messages::data_types::{EncTicketPartInner, EncryptedData};
 use krb_messages::messages::{ApReqInner, KdcReq};
-use krb_tickets::first_of;
-use krb_types::Refusal;
-use krb_types::data_types::{EncTicketPartInner, EncryptedData};
+use krb_tickets::{first_of, suite_of};
 use std::alloc::{AllocError, Global};
 
 /// Returns what is told of a TGS request that is refused with this error code, to a ticket-granting service with this account: the ticket's

@@ -1,7 +1,7 @@
 //! Why a request was refused, where its error code leaves that open.
 ghost use Rattle.std.specs.Prelude.{◌≡◌};
 
-use pkinit_requests::PkAsReqFault;
+use pkinit_validation::PkAsReqFault;
 use std::fmt;
 
 /// Why an AS request was refused as KDC_ERR_PREAUTH_FAILED, or a TGS request as KRB_AP_ERR_BAD_INTEGRITY (RFC 4120, section 7.5.9). It

@@ -1,15 +1,15 @@
 //! A certificate with its private key, and the authority that the client trusts.
 
 use crate::arguments::CertificateFiles;
-use diffie_hellman::Group;
-use key_files::{FileFault, certificate_in, private_key_in};
+use decision_tables::both;
 use krb_commands::{FileKind, Stop, octets_of, refused};
 use pkinit_clients::ByCertificate;
-use pkinit_trust::Anchor;
-use result_pairs::both;
+use pkinit_validation::Anchor;
+use public_key_cryptography::Group;
 use rsa_keys::{OwnKey, RsaKeys};
 use std::alloc::Global;
-use x509_private_keys::RsaPrivateKey;
+use x509_certificates::{FileFault, certificate_in, private_key_in};
+use x509_keys::RsaPrivateKey;
 
 /// The group in which client and KDC agree on a key: the 2048-bit group 14 (RFC 3526, section 3), the smallest that MIT's krb5kdc takes.
 const GROUP: Group = Group::Modp2048;

@@ -1,8 +1,7 @@
 //! What the environment says where the arguments leave it out: the cache and the realm.
 
 use crate::arguments::named_cache;
-use krb_commands::{FileKind, Stop, failed, octets_of, usage};
-use krb_configuration::default_realm_in;
+use krb_commands::{FileKind, Stop, default_realm_in, failed, octets_of, usage};
 use std::env::{self, VarError};
 use std::fs;
 use std::os::unix::fs::MetadataExt;

@@ -12,7 +12,7 @@ use krb_client_exchanges::{
     ticket_for,
 };
 use krb_commands::{FileKind, Stop, begin, refused, write_file};
-use krb_credential_caches::CacheWriteFault;
+use krb_file_formats::CacheWriteFault;
 use std::alloc::Global;
 
 /// Gets the tickets of a login, and writes the cache. It begins with a file beside the cache, which it takes away again: where none can be

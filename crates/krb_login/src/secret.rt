@@ -5,9 +5,9 @@ use krb_client::Client;
 use krb_client_exchanges::keytab_suites;
 use krb_commands::{Stop, keytab_in, refused, unread};
 use krb_crypto::CipherSuite;
-use krb_keytabs::KeytabRecord;
+use krb_file_formats::KeytabRecord;
+use krb_messages::{is_same_name, is_same_realm};
 use krb_programs::read_front;
-use krb_types::{is_same_name, is_same_realm};
 
 /// How many octets a password may have.
 const PASSWORD_LIMIT: usize = 4_096;

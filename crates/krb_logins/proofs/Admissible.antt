@@ -10,15 +10,15 @@ use Rattle.picky_asn1.specs.Bytes.{Bytes}
 use Rattle.krb_time.specs.Units.{Micros}
 use Rattle.krb_constants.specs.declared.ap_options.TheConstants.{USE_SESSION_KEY}
 use Rattle.krb_crypto.specs.Suites.{cipher_confounder_size, cipher_number}
-use Rattle.krb_types.specs.Names.{is_same_name, is_same_realm}
-use Rattle.krb_types.specs.RandomBytes.{ticket_confounder}
-use Rattle.krb_types.specs.declared.data_types.authenticator.AuthenticatorInner.{AuthenticatorInner}
-use Rattle.krb_encrypted_data.specs.Sealing.{Seals}
+use Rattle.krb_messages.specs.Names.{is_same_name, is_same_realm}
+use Rattle.krb_messages.specs.RandomBytes.{ticket_confounder}
+use Rattle.krb_messages.specs.declared.data_types.authenticator.AuthenticatorInner.{AuthenticatorInner}
+use Rattle.krb_tickets.specs.Sealing.{Seals}
 use Rattle.krb_tickets.specs.Grant.{GrantRecord}
 use Rattle.krb_tickets.specs.Parts.{session_key_of, ticket_part}
 use Rattle.krb_tickets.specs.Sealed.{ticket_part_bytes}
 use Rattle.krb_tickets.specs.Times.{asked_end}
-use Rattle.krb_kdc_requests.specs.declared.span.Span.{Span}
+use Rattle.krb_kdc_exchanges.specs.declared.span.Span.{Span}
 use Rattle.krb_ap_requests.specs.Acceptable.{IsAcceptable}
 use Rattle.krb_ap_requests.specs.Presents.{Choice}
 use Rattle.krb_client.specs.Authenticators.{authenticator_parts_of, authenticator_with, options_of}

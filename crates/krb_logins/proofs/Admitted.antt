@@ -4,13 +4,13 @@ use Rattle.asn1_leaves.specs.declared.date.GeneralizedTime.{GeneralizedTime}
 use Rattle.picky_asn1.specs.Bytes.{Bytes}
 use Rattle.asn1_leaves.specs.GeneralizedTime.{seconds_of}
 use Rattle.krb_crypto.specs.Suites.{cipher_confounder_size}
-use Rattle.krb_types.specs.Names.{components}
-use Rattle.krb_types.specs.RandomBytes.{authenticator_confounder}
-use Rattle.krb_types.specs.declared.data_types.authenticator.AuthenticatorInner.{AuthenticatorInner}
-use Rattle.krb_encrypted_data.specs.Sealing.{encryption_key}
+use Rattle.krb_messages.specs.Names.{components}
+use Rattle.krb_messages.specs.RandomBytes.{authenticator_confounder}
+use Rattle.krb_messages.specs.declared.data_types.authenticator.AuthenticatorInner.{AuthenticatorInner}
+use Rattle.krb_tickets.specs.Sealing.{encryption_key}
 use Rattle.krb_tickets.specs.Parts.{session_key_of, ticket_part}
 use Rattle.krb_tickets.specs.Grant.{GrantRecord}
-use Rattle.krb_kdc_requests.specs.declared.span.Span.{Span}
+use Rattle.krb_kdc_exchanges.specs.declared.span.Span.{Span}
 use Rattle.krb_ap_requests.specs.Acceptable.{presented_choice}
 use Rattle.krb_service.specs.Admission.{AdmissionRecord, admission_of}
 use Rattle.krb_service.specs.ApReply.{IsReplyTo}
@@ -21,7 +21,7 @@ use Rattle.krb_client.specs.ApRequest.{ap_asked}
 use Rattle.krb_client.specs.Authenticators.{IsApRequest, authenticator_with, authenticator_parts_of}
 use Rattle.krb_client.specs.Client.{ClientRecord, CredentialRecord}
 use Rattle.krb_client.specs.declared.refusal.TakeRefusal.{TakeRefusal}
-use Rattle.pkinit_interface.specs.Rows.{PkinitRows}
+use Rattle.krb_kdc_exchanges.specs.Rows.{PkinitRows}
 use Rattle.krb_client.specs.Means.{MeansRecord}
 use Rattle.krb_service.specs.Admissible.{IsAdmissible}
 use Rattle.krb_service.specs.Once.{pair_of}

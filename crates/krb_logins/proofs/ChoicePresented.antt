@@ -10,21 +10,21 @@ use Rattle.krb_crypto.specs.Keys.{KeyRecord}
 use Rattle.krb_crypto.specs.Sealing.{IsSealedBy}
 use Rattle.krb_crypto.specs.Suites.{cipher_confounder_size, cipher_number}
 use Rattle.krb_crypto.specs.declared.suite.CipherSuite.{CipherSuite}
-use Rattle.krb_types.specs.RandomBytes.{authenticator_confounder}
-use Rattle.krb_types.specs.declared.data_types.authenticator.AuthenticatorInner.{AuthenticatorInner}
-use Rattle.krb_types.specs.declared.data_types.enc_ticket_part.EncTicketPartInner.{EncTicketPartInner}
-use Rattle.krb_types.specs.declared.data_types.encryption_key.EncryptionKey.{EncryptionKey}
-use Rattle.krb_types.specs.declared.data_types.ticket.TicketInner.{TicketInner}
+use Rattle.krb_messages.specs.RandomBytes.{authenticator_confounder}
+use Rattle.krb_messages.specs.declared.data_types.authenticator.AuthenticatorInner.{AuthenticatorInner}
+use Rattle.krb_messages.specs.declared.data_types.enc_ticket_part.EncTicketPartInner.{EncTicketPartInner}
+use Rattle.krb_messages.specs.declared.data_types.encryption_key.EncryptionKey.{EncryptionKey}
+use Rattle.krb_messages.specs.declared.data_types.ticket.TicketInner.{TicketInner}
 use Rattle.krb_messages.specs.declared.messages.ap_req.ApReqInner.{ApReqInner}
 use Rattle.krb_messages.specs.declared.messages.enc_kdc_rep_part.EncKdcRepPart.{EncKdcRepPart}
 use Rattle.krb_messages.specs.declared.messages.kdc_rep.KdcRep.{KdcRep}
 use Rattle.krb_messages.specs.Messages.{IsApReq, IsAsRep, IsTgsRep, ap_req_tree, authenticator_tree, enc_ticket_part_tree}
-use Rattle.krb_messages.specs.Trees.{kdc_rep_inner_tree}
-use Rattle.krb_encrypted_data.specs.Keys.{suite_of}
-use Rattle.krb_encrypted_data.specs.Sealing.{encrypted_by}
+use Rattle.krb_messages.specs.MessageTrees.{kdc_rep_inner_tree}
+use Rattle.krb_tickets.specs.Keys.{suite_of}
+use Rattle.krb_tickets.specs.Sealing.{encrypted_by}
 use Rattle.krb_ap_requests.specs.Presents.{Presents, SealsTo}
 use Rattle.krb_ap_requests.proofs.Shown.{request-outer}
-use Rattle.krb_reply_match.specs.Answers.{is_answer}
+use Rattle.krb_tickets.specs.Answers.{is_answer}
 use Rattle.krb_client.specs.Asked.{AsAskedRecord, TgsAskedRecord}
 use Rattle.krb_client.specs.ApRequest.{presented_subkey}
 use Rattle.krb_client.specs.AsReply.{takes_as_reply, takes_reply, takes_sealed}

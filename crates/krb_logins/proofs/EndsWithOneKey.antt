@@ -1,6 +1,6 @@
 -- What holds of the steps of every honest login, joined: it ends with one key.
 use Rattle.std.specs.Prelude.{Result, Ok}
-use Rattle.pkinit_interface.specs.Rows.{PkinitRows}
+use Rattle.krb_kdc_exchanges.specs.Rows.{PkinitRows}
 use Rattle.krb_client.specs.Client.{ClientRecord, CredentialRecord}
 use Rattle.krb_client.specs.Means.{MeansRecord}
 use Rattle.krb_service.specs.Service.{ServiceRecord}

@@ -9,29 +9,29 @@ use Rattle.krb_time.specs.Units.{Micros, Seconds}
 use Rattle.krb_crypto.specs.declared.suite.CipherSuite.{CipherSuite}
 use Rattle.krb_crypto.specs.Suites.{cipher_number}
 use Rattle.picky_asn1.specs.Numbers.{is_number}
-use Rattle.krb_types.specs.Names.{components, is_same_realm}
-use Rattle.krb_types.specs.RandomBytes.{Random}
-use Rattle.krb_types.specs.Refusals.{Code}
-use Rattle.krb_types.specs.declared.data_types.pa_data.PaData.{PaData}
-use Rattle.krb_types.specs.declared.data_types.principal_name.PrincipalName.{PrincipalName}
+use Rattle.krb_messages.specs.Names.{components, is_same_realm}
+use Rattle.krb_messages.specs.RandomBytes.{Random}
+use Rattle.krb_messages.specs.Refusals.{Code}
+use Rattle.krb_messages.specs.declared.data_types.pa_data.PaData.{PaData}
+use Rattle.krb_messages.specs.declared.data_types.principal_name.PrincipalName.{PrincipalName}
 use Rattle.krb_messages.specs.Messages.{IsAsReq, IsTgsReq, sole_as_req, sole_tgs_req}
 use Rattle.krb_messages.specs.declared.messages.kdc_req.KdcReq.{KdcReq}
 use Rattle.krb_messages.specs.declared.messages.kdc_req_body.KdcReqBody.{KdcReqBody}
 use Rattle.krb_accounts.specs.Account.{AccountRecord}
-use Rattle.pkinit_interface.specs.Rows.{PkinitRows}
+use Rattle.krb_kdc_exchanges.specs.Rows.{PkinitRows}
 use Rattle.decision_tables.specs.Tables.{Table, and_then, ask, done, need, refuse}
-use Rattle.krb_encrypted_data.specs.Sealing.{is_own_number}
+use Rattle.krb_tickets.specs.Sealing.{is_own_number}
 use Rattle.krb_tickets.specs.Grant.{GrantRecord}
 use Rattle.krb_tickets.specs.Parts.{session_key_of}
 use Rattle.krb_tickets.specs.ReplyKeys.{ReplyKeyRecord}
 use Rattle.krb_tickets.specs.Granted.{IsTicketReply}
-use Rattle.krb_as.specs.AsTable.{as_table, authenticated, is_later, is_listed, possible}
-use Rattle.krb_kdc_requests.specs.Call.{CallRecord}
-use Rattle.krb_as.specs.Grants.{Principals, granted, initial_grant}
-use Rattle.krb_kdc_requests.specs.Requests.{IsSpan, account_of, header_rows, client_of, is_ended, lasting, service_of}
-use Rattle.krb_types.specs.TicketGranting.{krbtgt_of}
-use Rattle.krb_kdc_requests.specs.declared.span.Span.{Span}
-use Rattle.krb_replies.specs.Replies.{Replies, as_reply, e_data_of, reply_of, tgs_reply}
+use Rattle.krb_kdc_exchanges.specs.AsTable.{as_table, authenticated, is_later, is_listed, possible}
+use Rattle.krb_kdc_exchanges.specs.Call.{CallRecord}
+use Rattle.krb_kdc_exchanges.specs.Grants.{Principals, granted, initial_grant}
+use Rattle.krb_kdc_exchanges.specs.Requests.{IsSpan, account_of, header_rows, client_of, is_ended, lasting, service_of}
+use Rattle.krb_messages.specs.TicketGranting.{krbtgt_of}
+use Rattle.krb_kdc_exchanges.specs.declared.span.Span.{Span}
+use Rattle.krb_kdc_exchanges.specs.Replies.{Replies, as_reply, e_data_of, reply_of, tgs_reply}
 use Rattle.krb_client.specs.AsRequest.{as_body, as_request_of}
 use Rattle.krb_client.specs.Client.{ClientRecord}
 use Rattle.krb_client.specs.Held.{principal_name}

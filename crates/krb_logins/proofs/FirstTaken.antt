@@ -5,15 +5,15 @@ use Rattle.asn1_leaves.specs.CharSets.{is_general_string}
 use Rattle.krb_crypto.specs.Keys.{KeyRecord}
 use Rattle.krb_crypto.specs.Suites.{cipher_confounder_size, cipher_key_size}
 use Rattle.krb_crypto.specs.declared.suite.CipherSuite.{CipherSuite}
-use Rattle.krb_types.specs.RandomBytes.{Random, reply_confounder}
-use Rattle.krb_types.specs.declared.data_types.encrypted_data.EncryptedData.{EncryptedData}
+use Rattle.krb_messages.specs.RandomBytes.{Random, reply_confounder}
+use Rattle.krb_messages.specs.declared.data_types.encrypted_data.EncryptedData.{EncryptedData}
 use Rattle.krb_messages.specs.Messages.{IsAsRep, enc_as_rep_part_tree, sole_as_rep}
 use Rattle.krb_messages.specs.declared.messages.enc_kdc_rep_part.EncKdcRepPart.{EncKdcRepPart}
 use Rattle.krb_messages.specs.declared.messages.kdc_rep.KdcRep.{KdcRep}
 use Rattle.krb_accounts.specs.Account.{AccountRecord}
 use Rattle.decision_tables.specs.Tables.{Table, and_then, ask, done}
-use Rattle.krb_encrypted_data.specs.Sealing.{Seals, sealed_opens}
-use Rattle.pkinit_interface.specs.Rows.{PkinitRows}
+use Rattle.krb_tickets.specs.Sealing.{Seals, sealed_opens}
+use Rattle.krb_kdc_exchanges.specs.Rows.{PkinitRows}
 use Rattle.krb_tickets.specs.Grant.{GrantRecord}
 use Rattle.krb_tickets.specs.declared.reply.Exchange.TheVariants.{As}
 use Rattle.krb_tickets.specs.Parts.{kdc_reply_of, padata_of, reply_part, ticket_of}

@@ -19,12 +19,12 @@ use Rattle.krb_crypto.specs.Sealing.{IsSealedBy, checksum_of}
 use Rattle.krb_crypto.specs.Suites.{checksum_number, cipher_checksum, cipher_confounder_size, cipher_number}
 use Rattle.krb_crypto.proofs.AllSuites.{some_checksum, suite_found}
 use Rattle.krb_crypto.proofs.SealingLemmas.{same_suite}
-use Rattle.krb_types.specs.Names.{components, is_same_name, is_same_realm}
-use Rattle.krb_types.specs.RandomBytes.{authenticator_confounder, ticket_confounder}
-use Rattle.krb_types.specs.declared.data_types.authenticator.AuthenticatorInner.{AuthenticatorInner}
-use Rattle.krb_types.specs.declared.data_types.checksum.Checksum.{Checksum}
-use Rattle.krb_types.specs.declared.data_types.enc_ticket_part.EncTicketPartInner.{EncTicketPartInner}
-use Rattle.krb_types.specs.declared.data_types.principal_name.PrincipalName.{PrincipalName}
+use Rattle.krb_messages.specs.Names.{components, is_same_name, is_same_realm}
+use Rattle.krb_messages.specs.RandomBytes.{authenticator_confounder, ticket_confounder}
+use Rattle.krb_messages.specs.declared.data_types.authenticator.AuthenticatorInner.{AuthenticatorInner}
+use Rattle.krb_messages.specs.declared.data_types.checksum.Checksum.{Checksum}
+use Rattle.krb_messages.specs.declared.data_types.enc_ticket_part.EncTicketPartInner.{EncTicketPartInner}
+use Rattle.krb_messages.specs.declared.data_types.principal_name.PrincipalName.{PrincipalName}
 use Rattle.krb_messages.specs.declared.messages.ap_req.ApReqInner.{ApReqInner}
 use Rattle.krb_messages.specs.declared.messages.kdc_req.KdcReq.{KdcReq}
 use Rattle.krb_messages.specs.declared.messages.kdc_req_body.KdcReqBody.{KdcReqBody}
@@ -32,8 +32,8 @@ use Rattle.krb_messages.specs.Messages.{IsApReq, IsAsReq, IsTgsReq, enc_ticket_p
 use Rattle.krb_accounts.specs.Account.{AccountRecord}
 use Rattle.krb_accounts.specs.declared.policy.Policy.{Policy}
 use Rattle.decision_tables.specs.Tables.{Table, and_then, ask, done, need, refuse}
-use Rattle.krb_encrypted_data.specs.Keys.{suite_of}
-use Rattle.krb_encrypted_data.specs.Sealing.{encryption_key, is_own_number, sealed_opens}
+use Rattle.krb_tickets.specs.Keys.{suite_of}
+use Rattle.krb_tickets.specs.Sealing.{encryption_key, is_own_number, sealed_opens}
 use Rattle.krb_tickets.specs.Padata.{first_padata, first_of}
 use Rattle.krb_tickets.specs.Grant.{GrantRecord}
 use Rattle.krb_tickets.specs.Parts.{session_key_of, ticket_part}
@@ -46,16 +46,16 @@ use Rattle.krb_ap_requests.specs.Entry.{EntryRecord}
 use Rattle.krb_ap_requests.specs.Messages.{IsAuthenticator, IsTicketPart, sole_authenticator, sole_ticket_part}
 use Rattle.krb_ap_requests.specs.Presents.{request_of}
 use Rattle.krb_ap_requests.specs.declared.presented.Authenticated.{Authenticated}
-use Rattle.pkinit_interface.specs.Rows.{PkinitRows}
-use Rattle.krb_kdc_requests.specs.Call.{CallRecord, skew_of}
-use Rattle.krb_kdc_requests.specs.Granting.{replied}
-use Rattle.krb_kdc_requests.specs.Requests.{IsSpan, account_of, client_of, padata_in, is_ended, lasting, service_of}
+use Rattle.krb_kdc_exchanges.specs.Rows.{PkinitRows}
+use Rattle.krb_kdc_exchanges.specs.Call.{CallRecord, skew_of}
+use Rattle.krb_kdc_exchanges.specs.Granting.{replied}
+use Rattle.krb_kdc_exchanges.specs.Requests.{IsSpan, account_of, client_of, padata_in, is_ended, lasting, service_of}
 use Rattle.krb_messages.specs.Bodies.{body_bytes}
-use Rattle.krb_types.specs.TicketGranting.{krbtgt_of}
-use Rattle.krb_kdc_requests.specs.declared.span.Span.{Span}
-use Rattle.krb_tgs.specs.TgsTable as table
-use Rattle.krb_tgs.specs.TgsTable.{carried, client_and_times, covered, further, is_known_checksum, is_of_body, of_carried, of_authenticated, of_ticket, authenticated_near, tgs_granted, tgs_table, ticket_granting, to_us}
-use Rattle.krb_replies.specs.Replies.{Replies, as_reply, reply_of, tgs_reply}
+use Rattle.krb_messages.specs.TicketGranting.{krbtgt_of}
+use Rattle.krb_kdc_exchanges.specs.declared.span.Span.{Span}
+use Rattle.krb_kdc_exchanges.specs.TgsTable as table
+use Rattle.krb_kdc_exchanges.specs.TgsTable.{carried, client_and_times, covered, further, is_known_checksum, is_of_body, of_carried, of_authenticated, of_ticket, authenticated_near, tgs_granted, tgs_table, ticket_granting, to_us}
+use Rattle.krb_kdc_exchanges.specs.Replies.{Replies, as_reply, reply_of, tgs_reply}
 use Rattle.krb_client.specs.Authenticators.{IsApRequest, authenticator_with, authenticator_parts_of}
 use Rattle.krb_client.specs.Client.{ClientRecord, CredentialRecord}
 use Rattle.krb_client.specs.Held.{principal_name}

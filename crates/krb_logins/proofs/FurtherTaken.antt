@@ -4,15 +4,15 @@ use Rattle.picky_asn1.specs.Bytes.{Bytes}
 use Rattle.asn1_leaves.specs.CharSets.{is_general_string}
 use Rattle.krb_crypto.specs.declared.suite.CipherSuite.{CipherSuite}
 use Rattle.krb_crypto.specs.Suites.{cipher_confounder_size, cipher_key_size}
-use Rattle.krb_types.specs.RandomBytes.{Random, reply_confounder}
-use Rattle.krb_types.specs.declared.data_types.encrypted_data.EncryptedData.{EncryptedData}
+use Rattle.krb_messages.specs.RandomBytes.{Random, reply_confounder}
+use Rattle.krb_messages.specs.declared.data_types.encrypted_data.EncryptedData.{EncryptedData}
 use Rattle.krb_messages.specs.Messages.{IsTgsRep, enc_tgs_rep_part_tree, sole_tgs_rep}
 use Rattle.krb_messages.specs.declared.messages.enc_kdc_rep_part.EncKdcRepPart.{EncKdcRepPart}
 use Rattle.krb_messages.specs.declared.messages.kdc_rep.KdcRep.{KdcRep}
 use Rattle.krb_accounts.specs.Account.{AccountRecord}
-use Rattle.pkinit_interface.specs.Rows.{PkinitRows}
+use Rattle.krb_kdc_exchanges.specs.Rows.{PkinitRows}
 use Rattle.decision_tables.specs.Tables.{Table, ask, done}
-use Rattle.krb_encrypted_data.specs.Sealing.{sealed_opens}
+use Rattle.krb_tickets.specs.Sealing.{sealed_opens}
 use Rattle.krb_tickets.specs.Grant.{GrantRecord}
 use Rattle.krb_tickets.specs.declared.reply.Exchange.TheVariants.{Tgs}
 use Rattle.krb_tickets.specs.Parts.{kdc_reply_of, reply_part, session_key_of, ticket_of}

@@ -9,20 +9,20 @@ use Rattle.krb_crypto.specs.declared.suite.CipherSuite.{CipherSuite}
 use Rattle.krb_crypto.specs.Suites.{cipher_confounder_size, cipher_key_size, cipher_seed_size}
 use Rattle.krb_crypto.proofs.AllSuites.{seed_below}
 use Rattle.krb_crypto.proofs.SealedTexts.{seed_key_sized}
-use Rattle.krb_types.specs.Names.{components, is_same_name, is_same_realm}
-use Rattle.krb_types.specs.RandomBytes.{Random, session_seed, ticket_confounder}
-use Rattle.krb_types.specs.declared.data_types.encrypted_data.EncryptedData.{EncryptedData}
+use Rattle.krb_messages.specs.Names.{components, is_same_name, is_same_realm}
+use Rattle.krb_messages.specs.RandomBytes.{Random, session_seed, ticket_confounder}
+use Rattle.krb_messages.specs.declared.data_types.encrypted_data.EncryptedData.{EncryptedData}
 use Rattle.krb_messages.specs.declared.messages.kdc_rep.KdcRep.{KdcRep}
 use Rattle.krb_accounts.specs.Account.{AccountRecord}
 use Rattle.decision_tables.specs.Tables.{Table, done, need}
-use Rattle.krb_encrypted_data.specs.Keys.{suite_of}
-use Rattle.krb_encrypted_data.proofs.KeySizes.{suite_of_sized}
-use Rattle.krb_encrypted_data.specs.Sealing.{encryption_key}
+use Rattle.krb_tickets.specs.Keys.{suite_of}
+use Rattle.krb_tickets.proofs.KeySizes.{suite_of_sized}
+use Rattle.krb_tickets.specs.Sealing.{encryption_key}
 use Rattle.krb_tickets.specs.Grant.{GrantRecord}
 use Rattle.krb_tickets.specs.declared.reply.Exchange.{Exchange}
 use Rattle.krb_tickets.specs.Parts.{kdc_reply_of, reply_part, session_key_of, ticket_of, ticket_part}
 use Rattle.krb_tickets.specs.Sealed.{IsSealedData, ticket_part_bytes}
-use Rattle.krb_reply_match.specs.Answers.{is_answer}
+use Rattle.krb_tickets.specs.Answers.{is_answer}
 use Rattle.krb_client.specs.Client.{ClientRecord, CredentialRecord}
 use Rattle.krb_client.specs.Taking.{Taken, credential_of, takes_part}
 use Rattle.krb_client.specs.declared.refusal.TakeRefusal.{TakeRefusal}

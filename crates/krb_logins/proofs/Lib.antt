@@ -25,3 +25,5 @@ mod OneKey
 pub mod EndsWithOneKey
 mod OneLogin
 pub mod ChoicePresented
+mod Admitting
+pub mod StepEnds

@@ -2,7 +2,7 @@
 use Rattle.std.proofs.Common.{◌≡◌, ℕ, get_or, sym, ap, ◌∙◌}
 use Rattle.asn1_der.specs.Length.{element}
 use Rattle.picky_asn1.specs.Bytes.{Bytes}
-use Rattle.krb_types.specs.Refusals.{Code}
+use Rattle.krb_messages.specs.Refusals.{Code}
 use Rattle.krb_client.specs.Messages.{IsErrorCode}
 
 same_first : (first other : ℕ) (content rest : Bytes) → element first content ≡ element other rest → first ≡ other

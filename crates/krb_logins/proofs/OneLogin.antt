@@ -3,16 +3,16 @@ use Rattle.std.proofs.Common.{◌≡◌, ◌⊎◌, true, false, List, None, Som
 use Rattle.asn1_leaves.specs.declared.date.GeneralizedTime.{GeneralizedTime}
 use Rattle.picky_asn1.specs.Bytes.{Bytes}
 use Rattle.krb_time.specs.Units.{Micros}
-use Rattle.krb_types.specs.RandomBytes.{Random}
+use Rattle.krb_messages.specs.RandomBytes.{Random}
 use Rattle.krb_accounts.specs.Names.{are_components}
-use Rattle.krb_encrypted_data.specs.Sealing.{encryption_key}
+use Rattle.krb_tickets.specs.Sealing.{encryption_key}
 use Rattle.decision_tables.specs.Tables.{Table}
 use Rattle.krb_frames.specs.declared.fault.AnswerRefusal.{AnswerRefusal}
 use Rattle.krb_frames.specs.declared.fault.AnswerRefusal.TheVariants as answer_refusal
-use Rattle.krb_kdc_requests.specs.Call.{CallRecord}
-use Rattle.krb_types.specs.TicketGranting.{krbtgt_of}
-use Rattle.krb_replies.specs.Replies as replies
-use Rattle.pkinit_interface.specs.Rows.{PkinitRows}
+use Rattle.krb_kdc_exchanges.specs.Call.{CallRecord}
+use Rattle.krb_messages.specs.TicketGranting.{krbtgt_of}
+use Rattle.krb_kdc_exchanges.specs.Replies as replies
+use Rattle.krb_kdc_exchanges.specs.Rows.{PkinitRows}
 use Rattle.krb_service.specs.Pair.{PairRecord}
 use Rattle.krb_service.specs.Admission.{AdmissionRecord}
 use Rattle.krb_ap_requests.specs.declared.refusal.AdmitRefusal.{AdmitRefusal}

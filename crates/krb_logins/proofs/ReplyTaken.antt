@@ -9,14 +9,14 @@ use Rattle.picky_asn1.specs.Numbers.{is_number}
 use Rattle.krb_crypto.specs.declared.suite.CipherSuite.{CipherSuite}
 use Rattle.krb_crypto.specs.Suites.{cipher_confounder_size}
 use Rattle.krb_time.specs.Units.{Micros}
-use Rattle.krb_types.specs.declared.data_types.authenticator.AuthenticatorInner.{AuthenticatorInner}
-use Rattle.krb_types.specs.declared.data_types.enc_ap_rep_part.EncApRepPartInner.{EncApRepPartInner}
-use Rattle.krb_types.specs.declared.data_types.encrypted_data.EncryptedData.{EncryptedData}
+use Rattle.krb_messages.specs.declared.data_types.authenticator.AuthenticatorInner.{AuthenticatorInner}
+use Rattle.krb_messages.specs.declared.data_types.enc_ap_rep_part.EncApRepPartInner.{EncApRepPartInner}
+use Rattle.krb_messages.specs.declared.data_types.encrypted_data.EncryptedData.{EncryptedData}
 use Rattle.krb_messages.specs.Messages.{IsApRep, ap_rep_tree, enc_ap_rep_part_tree, sole_ap_rep}
-use Rattle.krb_messages.specs.Trees.{ap_rep_inner_tree}
-use Rattle.krb_encrypted_data.specs.Sealing.{Seals, encrypted_by, sealed_opens}
+use Rattle.krb_messages.specs.MessageTrees.{ap_rep_inner_tree}
+use Rattle.krb_tickets.specs.Sealing.{Seals, encrypted_by, sealed_opens}
 use Rattle.decision_tables.specs.Tables.{Table, ask, done}
-use Rattle.krb_types.specs.RandomBytes.{Random, ap_reply_confounder}
+use Rattle.krb_messages.specs.RandomBytes.{Random, ap_reply_confounder}
 use Rattle.krb_service.specs.ApReply.{IsReply, IsReplyUnder, ap_rep_of, ap_rep_part}
 use Rattle.krb_client.specs.Asked.{ApAskedRecord}
 use Rattle.krb_client.specs.ApReply.{IsApPart, Shown, TakesApReply, sole_ap_part, takes_answer, takes_ap_reply, takes_time, tells}

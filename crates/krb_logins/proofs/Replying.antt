@@ -7,10 +7,10 @@ use Rattle.krb_time.specs.Moment.{IsMoment}
 use Rattle.krb_time.specs.Units.{Micros}
 use Rattle.decision_tables.specs.Some.{HasSome}
 use Rattle.krb_tickets.specs.Times.{asked_end, last_second}
-use Rattle.pkinit_interface.specs.Rows.{PkinitRows}
-use Rattle.krb_kdc_requests.specs.Calls.{AreKeyed}
-use Rattle.krb_replies.specs.Replies.{Replies}
-use Rattle.krb_replies.proofs.HasReply.{has_reply}
+use Rattle.krb_kdc_exchanges.specs.Rows.{PkinitRows}
+use Rattle.krb_kdc_exchanges.specs.Calls.{AreKeyed}
+use Rattle.krb_kdc_exchanges.specs.Replies.{Replies}
+use Rattle.krb_kdc_exchanges.proofs.HasReply.{has_reply}
 use Rattle.krb_logins.specs.Laws.{AreBytes}
 use Rattle.krb_logins.specs.Parties.{RealmRecord, call_at}
 use Rattle.krb_logins.proofs.LastSecond.{second_below}

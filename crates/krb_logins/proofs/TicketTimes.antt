@@ -5,8 +5,8 @@ use Rattle.std.specs.Prelude.{nat_lt}
 use Rattle.asn1_leaves.specs.declared.date.GeneralizedTime.{GeneralizedTime}
 use Rattle.asn1_leaves.specs.GeneralizedTime.{seconds_of}
 use Rattle.krb_time.specs.Units.{Micros, Seconds}
-use Rattle.krb_kdc_requests.specs.Requests.{IsSpan}
-use Rattle.krb_kdc_requests.specs.declared.span.Span.{Span}
+use Rattle.krb_kdc_exchanges.specs.Requests.{IsSpan}
+use Rattle.krb_kdc_exchanges.specs.declared.span.Span.{Span}
 use Rattle.krb_ap_requests.specs.ApTable.{is_early, is_late}
 use Rattle.krb_tickets.specs.Parts.{ticket_part}
 use Rattle.krb_tickets.specs.Times.{asked_end, last_second, old_end, start_of}

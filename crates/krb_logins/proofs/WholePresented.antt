@@ -7,11 +7,11 @@ use Rattle.asn1_der.specs.Tree.{IsWhole, Tree, leaf, wrapped}
 use Rattle.asn1_der.proofs.Spelling.{whole-wrapped}
 use Rattle.picky_asn1.specs.Bytes.{Bytes}
 use Rattle.krb_crypto.specs.declared.suite.CipherSuite.{CipherSuite}
-use Rattle.krb_types.specs.contracts.data_types.ticket.TicketInnerTagged.TheImpl as ticket_impl
-use Rattle.krb_types.specs.declared.data_types.checksum.Checksum.{Checksum}
-use Rattle.krb_types.specs.declared.data_types.ticket.TicketInner.{TicketInner}
+use Rattle.krb_messages.specs.contracts.data_types.ticket.TicketInnerTagged.TheImpl as ticket_impl
+use Rattle.krb_messages.specs.declared.data_types.checksum.Checksum.{Checksum}
+use Rattle.krb_messages.specs.declared.data_types.ticket.TicketInner.{TicketInner}
 use Rattle.krb_messages.specs.Messages.{ap_req_tree, authenticator_tree, enc_ticket_part_tree}
-use Rattle.krb_encrypted_data.specs.Sealing.{encrypted_by}
+use Rattle.krb_tickets.specs.Sealing.{encrypted_by}
 use Rattle.krb_tickets.specs.Parts.{ticket_of, ticket_part}
 use Rattle.krb_tickets.specs.Grant.{GrantRecord}
 use Rattle.krb_client.specs.Authenticators.{ap_request_of, authenticator_with, authenticator_parts_of}

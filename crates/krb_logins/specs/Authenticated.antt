@@ -3,18 +3,18 @@
 use Rattle.std.specs.Prelude.{◌≡◌, Result, Ok}
 use Rattle.krb_constants.specs.KeyUsages.{key_usage}
 use Rattle.krb_constants.specs.declared.key_usages.TheConstants.{AS_REP_ENC}
-use Rattle.krb_types.specs.Refusals.{Code}
-use Rattle.krb_types.specs.declared.data_types.pa_data.PaData.{PaData}
+use Rattle.krb_messages.specs.Refusals.{Code}
+use Rattle.krb_messages.specs.declared.data_types.pa_data.PaData.{PaData}
 use Rattle.krb_messages.specs.declared.messages.kdc_rep.KdcRep.{KdcRep}
 use Rattle.krb_messages.specs.declared.messages.kdc_req_body.KdcReqBody.{KdcReqBody}
 use Rattle.krb_crypto.specs.Keys.{KeyRecord}
 use Rattle.krb_accounts.specs.Account.{AccountRecord}
-use Rattle.pkinit_interface.specs.Rows.{PkinitRows}
+use Rattle.krb_kdc_exchanges.specs.Rows.{PkinitRows}
 use Rattle.krb_tickets.specs.Parts.{padata_of}
 use Rattle.krb_tickets.specs.ReplyKeys.{ReplyKeyRecord}
 use Rattle.krb_tickets.specs.declared.reply.Exchange.TheVariants.{As}
-use Rattle.krb_as.specs.AsTable.{authenticated}
-use Rattle.krb_types.specs.TicketGranting.{krbtgt_of}
+use Rattle.krb_kdc_exchanges.specs.AsTable.{authenticated}
+use Rattle.krb_messages.specs.TicketGranting.{krbtgt_of}
 use Rattle.krb_client.specs.Asked.{AsAskedRecord}
 use Rattle.krb_client.specs.AsRequest.{as_asked, as_body, as_request_of}
 use Rattle.krb_client.specs.Client.{ClientRecord}

@@ -7,9 +7,9 @@ use Rattle.krb_time.specs.Units.{Micros}
 use Rattle.krb_constants.specs.declared.key_usages.TheConstants.{TICKET_REP}
 use Rattle.krb_constants.specs.declared.types.TheConstants.{AP_REQ_MSG_TYPE, KERBEROS_VERSION}
 use Rattle.krb_crypto.specs.Suites.{cipher_number}
-use Rattle.krb_types.specs.RandomBytes.{Random}
-use Rattle.krb_types.specs.declared.data_types.authenticator.AuthenticatorInner.{AuthenticatorInner}
-use Rattle.krb_types.specs.declared.data_types.enc_ticket_part.EncTicketPartInner.{EncTicketPartInner}
+use Rattle.krb_messages.specs.RandomBytes.{Random}
+use Rattle.krb_messages.specs.declared.data_types.authenticator.AuthenticatorInner.{AuthenticatorInner}
+use Rattle.krb_messages.specs.declared.data_types.enc_ticket_part.EncTicketPartInner.{EncTicketPartInner}
 use Rattle.krb_messages.specs.Messages.{enc_ticket_part_tree}
 use Rattle.krb_accounts.specs.Names.{AreComponents, IsRealmName}
 use Rattle.krb_ap_requests.specs.Presents.{Choice, SealsTo}

@@ -5,15 +5,15 @@ use Rattle.asn1_leaves.specs.GeneralizedTime.{seconds_of}
 use Rattle.krb_constants.specs.declared.key_usages.TheConstants.{TICKET_REP}
 use Rattle.krb_constants.specs.declared.types.TheConstants.{NT_PRINCIPAL, NT_SRV_INST}
 use Rattle.krb_crypto.specs.Suites.{cipher_confounder_size}
-use Rattle.krb_types.specs.RandomBytes.{Random, ticket_confounder}
-use Rattle.krb_types.specs.declared.data_types.encrypted_data.EncryptedData.{EncryptedData}
+use Rattle.krb_messages.specs.RandomBytes.{Random, ticket_confounder}
+use Rattle.krb_messages.specs.declared.data_types.encrypted_data.EncryptedData.{EncryptedData}
 use Rattle.krb_accounts.specs.Account.{AccountRecord}
 use Rattle.krb_tickets.specs.Grant.{GrantRecord}
 use Rattle.krb_tickets.specs.Parts.{flags_of, session_key_of, ticket_of, ticket_part}
 use Rattle.krb_tickets.specs.Sealed.{IsSealedData, ticket_part_bytes}
-use Rattle.krb_kdc_requests.specs.Requests.{IsSpan}
-use Rattle.krb_types.specs.TicketGranting.{krbtgt_of}
-use Rattle.krb_kdc_requests.specs.declared.span.Span.{Span}
+use Rattle.krb_kdc_exchanges.specs.Requests.{IsSpan}
+use Rattle.krb_messages.specs.TicketGranting.{krbtgt_of}
+use Rattle.krb_kdc_exchanges.specs.declared.span.Span.{Span}
 use Rattle.krb_client.specs.Client.{ClientRecord, CredentialRecord}
 use Rattle.krb_client.specs.Held.{principal_name}
 use Rattle.krb_client.specs.Requests.{nonce_of}

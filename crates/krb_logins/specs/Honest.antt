@@ -1,15 +1,15 @@
 -- Which logins are honest, and what they end with.
 use Rattle.std.specs.Prelude.{◌≡◌, ◌≤◌, ◌<◌, ◌+◌, ◌*◌, ℕ, false, max, min, length, Some, Result, Ok, Err}
-use Rattle.krb_types.specs.RandomBytes.{AreEnoughForApReply, AreEnoughForReply, AreEnoughForRequest}
+use Rattle.krb_messages.specs.RandomBytes.{AreEnoughForApReply, AreEnoughForReply, AreEnoughForRequest}
 use Rattle.picky_asn1.specs.Bytes.{Bytes}
 use Rattle.asn1_leaves.specs.GeneralizedTime.{seconds_of}
 use Rattle.krb_time.specs.Units.{Micros}
-use Rattle.krb_types.specs.Names.{components}
+use Rattle.krb_messages.specs.Names.{components}
 use Rattle.krb_accounts.specs.Account.{AccountRecord}
 use Rattle.krb_accounts.specs.Names.{AreComponents, IsRealmName}
 use Rattle.krb_service.specs.Pair.{PairRecord, is_among}
 use Rattle.krb_tickets.specs.Times.{asked_end}
-use Rattle.krb_types.specs.TicketGranting.{krbtgt_of}
+use Rattle.krb_messages.specs.TicketGranting.{krbtgt_of}
 use Rattle.krb_client.specs.Client.{ClientRecord}
 use Rattle.krb_service.specs.Service.{IsService, ServiceRecord}
 use Rattle.krb_logins.specs.LoginRun.{Login}

@@ -2,7 +2,7 @@
 use Rattle.krb_accounts.specs.Accounts.{look_in}
 use Rattle.krb_accounts.specs.Names.{parts}
 use Rattle.krb_service.specs.Service.{ServiceRecord}
-use Rattle.krb_kdc_requests.specs.declared.call.Call as called
+use Rattle.krb_kdc_exchanges.specs.declared.call.Call as called
 use Rattle.krb_logins.specs.Parties.{LoginRecord, RealmRecord, RememberedRecord}
 use Rattle.krb_logins.specs.declared.input.LoginInput as held
 

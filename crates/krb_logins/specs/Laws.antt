@@ -2,18 +2,18 @@
 -- opens to one value, and that keys have their length.
 use Rattle.std.specs.Prelude.{◌≡◌, ◌<◌, ◌^◌, false, true, ◌∷◌, length, Option, Some, Result, Ok}
 use Rattle.picky_asn1.specs.Bytes.{Bytes}
-use Rattle.aes_cts.specs.Bytes.{IsBytes}
-use Rattle.krb_types.specs.Names.{components}
-use Rattle.krb_encrypted_data.specs.Sealing.{encryption_key}
-use Rattle.pkinit_interface.specs.Rows.{PkinitRows}
+use Rattle.block_ciphers.specs.Bytes.{IsBytes}
+use Rattle.krb_messages.specs.Names.{components}
+use Rattle.krb_tickets.specs.Sealing.{encryption_key}
+use Rattle.krb_kdc_exchanges.specs.Rows.{PkinitRows}
 use Rattle.krb_tickets.specs.Parts.{session_key_of}
 use Rattle.krb_tickets.specs.ReplyKeys.{ReplyKeyRecord, tgs_reply_key}
 use Rattle.krb_tickets.specs.Granted.{IsTicketReply}
 use Rattle.decision_tables.specs.Some.{HasSome}
-use Rattle.krb_kdc_requests.specs.Calls.{AreKeyed}
-use Rattle.krb_types.specs.TicketGranting.{krbtgt_of}
-use Rattle.krb_kdc_requests.specs.declared.span.Span.{Span}
-use Rattle.krb_replies.specs.Replies.{Replies}
+use Rattle.krb_kdc_exchanges.specs.Calls.{AreKeyed}
+use Rattle.krb_messages.specs.TicketGranting.{krbtgt_of}
+use Rattle.krb_kdc_exchanges.specs.declared.span.Span.{Span}
+use Rattle.krb_kdc_exchanges.specs.Replies.{Replies}
 use Rattle.krb_service.specs.Admission.{AdmissionRecord}
 use Rattle.krb_client.specs.ApReply.{TakesApReply}
 use Rattle.krb_client.specs.ApRequest.{AsksAp, ap_asked}

@@ -7,3 +7,4 @@ pub mod Authenticated
 pub mod Held
 pub mod Laws
 pub mod Choices
+pub mod ApExchanges

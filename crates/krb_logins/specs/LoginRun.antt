@@ -2,10 +2,10 @@
 -- by that one admission. Each step takes the bytes of the one before it, and the first refusal ends the login.
 use Rattle.std.specs.Prelude.{◌≡◌, ◌⊎◌, max, Result, Ok, Err}
 use Rattle.picky_asn1.specs.Bytes.{Bytes}
-use Rattle.krb_types.specs.declared.data_types.encryption_key.EncryptionKey.{EncryptionKey}
-use Rattle.krb_encrypted_data.specs.Sealing.{encryption_key}
-use Rattle.pkinit_interface.specs.Rows.{PkinitRows}
-use Rattle.krb_types.specs.TicketGranting.{krbtgt_of}
+use Rattle.krb_messages.specs.declared.data_types.encryption_key.EncryptionKey.{EncryptionKey}
+use Rattle.krb_tickets.specs.Sealing.{encryption_key}
+use Rattle.krb_kdc_exchanges.specs.Rows.{PkinitRows}
+use Rattle.krb_messages.specs.TicketGranting.{krbtgt_of}
 use Rattle.krb_service.specs.Admission.{AdmissionRecord}
 use Rattle.krb_ap_requests.specs.declared.refusal.AdmitRefusal.{AdmitRefusal}
 use Rattle.krb_client.specs.Asked.{ApAskedRecord}

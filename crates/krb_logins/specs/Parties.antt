@@ -3,11 +3,11 @@ use Rattle.std.specs.Prelude.{List}
 use Rattle.asn1_leaves.specs.declared.date.GeneralizedTime.{GeneralizedTime}
 use Rattle.picky_asn1.specs.Bytes.{Bytes}
 use Rattle.krb_time.specs.Units.{Micros}
-use Rattle.krb_types.specs.RandomBytes.{Random}
+use Rattle.krb_messages.specs.RandomBytes.{Random}
 use Rattle.krb_accounts.specs.Accounts.{Look}
 use Rattle.krb_accounts.specs.Settings.{SettingsRecord}
 use Rattle.krb_service.specs.Pair.{PairRecord}
-use Rattle.krb_kdc_requests.specs.Call.{CallRecord}
+use Rattle.krb_kdc_exchanges.specs.Call.{CallRecord}
 
 -- a realm: its name, its settings, and its accounts as they are looked up
 pub record RealmRecord : Type 0 where

@@ -1,9 +1,9 @@
 //! The name of a realm's ticket-granting service.
 ghost use Rattle.std.specs.Prelude.{◌≡◌, IfOk};
 ghost use Rattle.krb_accounts.specs.Names.{parts};
-ghost use Rattle.krb_types.specs.TicketGranting.{krbtgt_of};
+ghost use Rattle.krb_messages.specs.TicketGranting.{krbtgt_of};
 
-use krb_types::krbtgt;
+use krb_messages::krbtgt;
 use picky_asn1::wrapper::GeneralStringAsn1;
 use std::alloc::{AllocError, Global};
 

@@ -2,9 +2,9 @@
 //! nothing when it runs: its contract is the law.
 ghost use Rattle.std.specs.Prelude.{◌≡◌, ◌⊎◌, ℕ, Bool, List, Result};
 ghost use Rattle.krb_crypto.specs.Suites.{cipher_confounder_size};
-ghost use Rattle.krb_types.specs.RandomBytes.{authenticator_confounder};
+ghost use Rattle.krb_messages.specs.RandomBytes.{authenticator_confounder};
 ghost use Rattle.krb_ap_requests.specs.Presents.{Presents};
-ghost use Rattle.krb_kdc_requests.specs.Calls.{AreKeyed};
+ghost use Rattle.krb_kdc_exchanges.specs.Calls.{AreKeyed};
 ghost use Rattle.krb_client.specs.Client.{ClientRecord, CredentialRecord};
 ghost use Rattle.krb_client.specs.EncryptedTimestamps.{by_key};
 ghost use Rattle.krb_service.specs.Service.{ServiceRecord};
@@ -17,7 +17,7 @@ ghost use Rattle.krb_logins.specs.Steps.{AreDecided};
 ghost use Rattle.krb_logins.specs.declared.refusal.LoginRefusal.{LoginRefusal};
 
 use krb_client::Means;
-use pkinit_interface::Pkinit;
+use krb_kdc_exchanges::Pkinit;
 
 /// A realm has a reply to the first request of an honest login's client, and grants the ticket that it asks for.
 pub fn first_granted<M: Means, P: Pkinit>(means: &M, pkinit: &P)

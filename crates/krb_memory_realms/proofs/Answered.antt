@@ -2,7 +2,7 @@
 use Rattle.std.proofs.Common.{◌≡◌, ℕ, Option, Result, Err, ap, sym, subst, ◌∙◌}
 use Rattle.std.specs.Prelude.{Vec}
 use Rattle.std.specs.Global.{Global}
-use Rattle.key_functions.specs.KeyFunctions.{KeysRecord}
+use Rattle.x509_keys.specs.KeyFunctions.{KeysRecord}
 use Rattle.krb_accounts.specs.Accounts.{look_in}
 use Rattle.krb_accounts.specs.Settings.{SettingsRecord}
 use Rattle.krb_frames.specs.declared.fault.AnswerRefusal.{AnswerRefusal}
@@ -12,14 +12,14 @@ use Rattle.krb_kdc.specs.Begins.{BeginsRequest}
 use Rattle.krb_kdc.specs.declared.fault.LookupFault.TheVariants as fault
 use Rattle.krb_kdc.specs.declared.fault.LookupRefusal.{LookupRefusal}
 use Rattle.krb_kdc.specs.declared.fault.LookupRefusal.TheVariants.{Unreadable, Fault}
-use Rattle.krb_kdc_requests.specs.Call.{CallRecord}
+use Rattle.krb_kdc_exchanges.specs.Call.{CallRecord}
 use Rattle.krb_time.specs.Units.{Micros}
-use Rattle.krb_types.specs.RandomBytes.{Random}
+use Rattle.krb_messages.specs.RandomBytes.{Random}
 use Rattle.picky_asn1.specs.Bytes.{Bytes}
-use Rattle.pkinit_interface.specs.Rows.{PkinitRows}
-use Rattle.krb_replies.specs.Replies.{Replies}
-use Rattle.pkinit_requests.specs.PkinitRows.{pkinit_rows}
-use Rattle.pkinit_requests.specs.Trust.{TrustRecord}
+use Rattle.krb_kdc_exchanges.specs.Rows.{PkinitRows}
+use Rattle.krb_kdc_exchanges.specs.Replies.{Replies}
+use Rattle.pkinit_validation.specs.PkinitRows.{pkinit_rows}
+use Rattle.pkinit_validation.specs.Trust.{TrustRecord}
 use Rattle.krb_memory_realms.specs.Answers.{IsAnswer}
 use Rattle.krb_memory_realms.specs.Realm.{RealmState, call_to}
 

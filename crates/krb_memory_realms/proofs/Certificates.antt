@@ -4,7 +4,7 @@ use Rattle.picky_asn1.specs.Bytes.{Bytes}
 use Rattle.x509_certificates.specs.contracts.certificate.CertificateSpelled.TheImpl as certificate_impl
 use Rattle.x509_spelling.specs.declared.fault.X509Fault.{X509Fault}
 use Rattle.x509_spelling.specs.declared.fault.X509Fault.TheVariants.{Memory}
-use Rattle.pkinit_trust.specs.Anchors.{AnchorRecord, ReadsMade, anchor_of}
+use Rattle.pkinit_validation.specs.Anchors.{AnchorRecord, ReadsMade, anchor_of}
 use Rattle.krb_memory_realms.specs.Settings.{IsCertificateIf, IsOwnCertificate}
 
 -- they are the certificate of the holder that was made

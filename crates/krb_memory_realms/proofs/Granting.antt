@@ -7,7 +7,7 @@ use Rattle.std.specs.Ordering.{eq_by_cmp, nat_cmp}
 use Rattle.picky_asn1.specs.Bytes.{Bytes}
 use Rattle.krb_accounts.specs.Account.{AccountRecord}
 use Rattle.krb_accounts.specs.Accounts.{AccountMap, name_cmp, name_total}
-use Rattle.krb_types.specs.TicketGranting.{krbtgt_of}
+use Rattle.krb_messages.specs.TicketGranting.{krbtgt_of}
 use Rattle.krb_memory_realms.specs.Realm.{has_krbtgt, is_krbtgt}
 
 given_or_kept : (same : Bool) (account : AccountRecord) (found : Option AccountRecord) → is_some found ≡ true → is_some (cond same (Some account) found) ≡ true

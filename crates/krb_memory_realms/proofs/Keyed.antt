@@ -4,14 +4,14 @@ use Rattle.std.proofs.lemmas.Bool.{eqb-true}
 use Rattle.std.specs.FinMap.{empty, get, get-empty, get-insert, get-remove, insert, remove}
 use Rattle.std.specs.Ordering.{eq_by_cmp}
 use Rattle.picky_asn1.specs.Bytes.{Bytes}
-use Rattle.aes_cts.specs.Bytes.{IsBytes}
+use Rattle.block_ciphers.specs.Bytes.{IsBytes}
 use Rattle.krb_crypto.specs.declared.suite.CipherSuite.{CipherSuite}
 use Rattle.krb_crypto.specs.Suites.{cipher_key_size}
 use Rattle.krb_accounts.specs.Account.{AccountRecord}
 use Rattle.krb_accounts.specs.Accounts.{AccountMap, changing, look_in, name_cmp, name_total, rekeyed}
 use Rattle.krb_accounts.specs.declared.refusal.RealmRefusal.TheVariants.{BadKeyLength, NumberSpent}
-use Rattle.krb_kdc_requests.specs.Calls.{AreKeyed, IsKeyed}
-use Rattle.krb_types.specs.TicketGranting.{krbtgt_of}
+use Rattle.krb_kdc_exchanges.specs.Calls.{AreKeyed, IsKeyed}
+use Rattle.krb_messages.specs.TicketGranting.{krbtgt_of}
 use Rattle.krb_memory_realms.specs.Realm.{IsRealm, is_krbtgt}
 use Rattle.krb_memory_realms.proofs.Granting.{inserted, inserted_own, removed}
 

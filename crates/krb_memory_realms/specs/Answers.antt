@@ -4,12 +4,12 @@ use Rattle.std.specs.Prelude.{Vec}
 use Rattle.std.specs.Global.{Global}
 use Rattle.picky_asn1.specs.Bytes.{Bytes}
 use Rattle.krb_time.specs.Units.{Micros}
-use Rattle.krb_types.specs.RandomBytes.{Random}
-use Rattle.key_functions.specs.KeyFunctions.{KeysRecord}
+use Rattle.krb_messages.specs.RandomBytes.{Random}
+use Rattle.x509_keys.specs.KeyFunctions.{KeysRecord}
 use Rattle.krb_frames.specs.declared.fault.AnswerRefusal.{AnswerRefusal}
 use Rattle.krb_frames.specs.declared.fault.AnswerRefusal.TheVariants.{Unreadable, Memory, Accounts}
-use Rattle.pkinit_requests.specs.PkinitRows.{pkinit_rows}
-use Rattle.krb_replies.specs.Replies.{Replies}
+use Rattle.pkinit_validation.specs.PkinitRows.{pkinit_rows}
+use Rattle.krb_kdc_exchanges.specs.Replies.{Replies}
 use Rattle.krb_memory_realms.specs.Realm.{RealmState, call_to}
 
 -- the reply, none if the message is no request; or memory ran out. A realm has its accounts in memory, so they can always be read

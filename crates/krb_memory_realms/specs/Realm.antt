@@ -2,7 +2,7 @@
 use Rattle.std.specs.Prelude.{◌≡◌, nat_eq, Bool, true, not, ◌==◌, List, length, None, Result, Ok, Err, if◌then◌else◌}
 use Rattle.std.specs.Cmp.Lexicographic.{pointwise}
 use Rattle.std.specs.FinMap as finite
-use Rattle.krb_types.specs.RandomBytes.{Random}
+use Rattle.krb_messages.specs.RandomBytes.{Random}
 use Rattle.krb_time.specs.Units.{Micros}
 use Rattle.picky_asn1.specs.Bytes.{Bytes}
 use Rattle.krb_crypto.specs.declared.suite.CipherSuite.{CipherSuite}
@@ -12,10 +12,10 @@ use Rattle.krb_accounts.specs.Accounts.{AccountMap, look_in}
 use Rattle.krb_accounts.specs.Accounts as map
 use Rattle.krb_accounts.specs.Names.{is_realm_name, are_components}
 use Rattle.krb_accounts.specs.Settings.{SettingsRecord}
-use Rattle.krb_kdc_requests.specs.Call.{CallRecord}
-use Rattle.krb_kdc_requests.specs.Calls.{AreKeyed}
-use Rattle.krb_types.specs.TicketGranting.{krbtgt_of}
-use Rattle.pkinit_requests.specs.Trust.{TrustRecord}
+use Rattle.krb_kdc_exchanges.specs.Call.{CallRecord}
+use Rattle.krb_kdc_exchanges.specs.Calls.{AreKeyed}
+use Rattle.krb_messages.specs.TicketGranting.{krbtgt_of}
+use Rattle.pkinit_validation.specs.Trust.{TrustRecord}
 use Rattle.krb_memory_realms.specs.Settings.{SettingsState}
 use Rattle.krb_accounts.specs.declared.refusal.RealmRefusal.{RealmRefusal}
 use Rattle.krb_accounts.specs.declared.refusal.RealmRefusal.TheVariants.{BadName, BadKeyLength, Exists, KeptAccount, Unknown}

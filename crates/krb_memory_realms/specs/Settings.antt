@@ -8,8 +8,8 @@ use Rattle.krb_accounts.specs.declared.policy.Policy.{Policy}
 use Rattle.krb_accounts.specs.declared.policy.TheConstants.{NO_POLICY}
 use Rattle.x509_certificates.specs.declared.certificate.Certificate.{Certificate}
 use Rattle.x509_certificates.specs.contracts.certificate.CertificateSpelled.TheImpl as certificate_impl
-use Rattle.pkinit_trust.specs.Anchors.{AnchorRecord}
-use Rattle.pkinit_requests.specs.Trust.{TrustRecord}
+use Rattle.pkinit_validation.specs.Anchors.{AnchorRecord}
+use Rattle.pkinit_validation.specs.Trust.{TrustRecord}
 
 pub record SettingsState : Type 0 where
   pub limits : SettingsRecord

@@ -1,31 +1,31 @@
 //! What holds of every realm. Each is a function that does nothing when it runs: its contract is the law.
 ghost use Rattle.std.specs.Prelude.{◌≡◌, ◌<◌, ◌^◌, ℕ, List, [], ◌∷◌, ◌++◌, Option, Some, length};
-ghost use Rattle.asn1_elements.specs.Parts.{IsPart};
+ghost use Rattle.picky_asn1_der.specs.Parts.{IsPart};
 ghost use Rattle.cms_signed_data.specs.SignedContents.{IsSignedContent};
 ghost use Rattle.cms_signed_data.specs.SignedParts.{SignedParts};
 ghost use Rattle.cms_signed_data.specs.Parts.{attributes_place, certificate_place};
-ghost use Rattle.aes_cts.specs.Bytes.{IsBytes};
+ghost use Rattle.block_ciphers.specs.Bytes.{IsBytes};
 ghost use Rattle.decision_tables.specs.Some.{HasSome};
-ghost use Rattle.key_functions.specs.KeyFunctions.{KeysRecord};
+ghost use Rattle.x509_keys.specs.KeyFunctions.{KeysRecord};
 ghost use Rattle.krb_constants.specs.declared.padata_types.TheConstants.{PA_PK_AS_REQ};
-ghost use Rattle.krb_kdc_requests.specs.Call.{CallRecord};
-ghost use Rattle.krb_kdc_requests.specs.Calls.{IsCall};
-ghost use Rattle.krb_kdc_requests.specs.Requests.{padata_in};
+ghost use Rattle.krb_kdc_exchanges.specs.Call.{CallRecord};
+ghost use Rattle.krb_kdc_exchanges.specs.Calls.{IsCall};
+ghost use Rattle.krb_kdc_exchanges.specs.Requests.{padata_in};
 ghost use Rattle.krb_messages.specs.Messages.{IsAsReq};
 ghost use Rattle.krb_messages.specs.declared.messages.kdc_req.KdcReq.{KdcReq};
 ghost use Rattle.krb_tickets.specs.Padata.{first_of};
-ghost use Rattle.krb_replies.specs.Involved.{IsOfInvolvedAlone};
-ghost use Rattle.krb_replies.specs.Replies.{Replies};
+ghost use Rattle.krb_kdc_exchanges.specs.Involved.{IsOfInvolvedAlone};
+ghost use Rattle.krb_kdc_exchanges.specs.Replies.{Replies};
 ghost use Rattle.picky_asn1.specs.Bytes.{Bytes};
 ghost use Rattle.pkinit_messages.specs.declared.pa_pk_as_req.PaPkAsReq.{PaPkAsReq};
-ghost use Rattle.pkinit_requests.specs.AuthPacks.{IsPaPkAsReq};
-ghost use Rattle.pkinit_requests.specs.PkinitRows.{pkinit_rows};
-ghost use Rattle.pkinit_requests.specs.Trust.{TrustRecord};
-ghost use Rattle.pkinit_trust.specs.Certificates.{IsCertificate, ReadRecord};
+ghost use Rattle.pkinit_validation.specs.AuthPacks.{IsPaPkAsReq};
+ghost use Rattle.pkinit_validation.specs.PkinitRows.{pkinit_rows};
+ghost use Rattle.pkinit_validation.specs.Trust.{TrustRecord};
+ghost use Rattle.pkinit_validation.specs.Certificates.{IsCertificate, ReadRecord};
 
-pub use krb_as::laws::{as_body_is_part, padata_is_part};
-pub use krb_tgs::laws::body_is_part;
-pub use pkinit_requests::laws::judged_is_part;
+pub use krb_kdc_exchanges::as_exchange::laws::{as_body_is_part, padata_is_part};
+pub use krb_kdc_exchanges::tgs_exchange::laws::body_is_part;
+pub use pkinit_validation::laws::judged_is_part;
 
 /// Realms of one name and of the same settings and key functions, which agree on the accounts involved in a request, reply to it
 /// equally, whatever other accounts they have: to an AS request the accounts of the client and of the service that it names, to

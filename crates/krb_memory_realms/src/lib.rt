@@ -2,7 +2,7 @@
 //!
 //! A [`Realm`] has a name, settings and accounts. [`Realm::answer`] gives the reply to a message at a moment, and [`serve`] answers the
 //! frames of a stream. A realm grants by password, and by certificate where its settings have an anchor and an own certificate
-//! (RFC 4556). Its signatures and key agreements are the caller's [`KeyFunctions`](key_functions::KeyFunctions).
+//! (RFC 4556). Its signatures and key agreements are the caller's [`KeyFunctions`](x509_keys::KeyFunctions).
 //!
 //! A reply is what `Replies` allows, or `Unreadable`. `Memory` is returned only for bytes that begin with the identifier octet of an
 //! AS-REQ or of a TGS-REQ (`BeginsRequest`). Each request has exactly one reply at each moment (`has_reply`, law `one_reply`). Making a

@@ -1,34 +1,34 @@
 //! Realms.
 ghost use Rattle.std.specs.Prelude.{◌≡◌, ◌<◌, ◌^◌, true, ℕ, List, Ok, Err, Some, None, OnOk, OnErr, IfOk, IfErr, MatchResult, length, ◌⊎◌};
 ghost use Rattle.std.specs.FinMap as finite;
-ghost use Rattle.krb_types.specs.RandomBytes.{AreEnoughForReply};
-ghost use Rattle.aes_cts.specs.Bytes.{IsBytes};
+ghost use Rattle.krb_messages.specs.RandomBytes.{AreEnoughForReply};
+ghost use Rattle.block_ciphers.specs.Bytes.{IsBytes};
 ghost use Rattle.krb_accounts.specs.Names.{parts};
 ghost use Rattle.krb_accounts.specs.Refusal.{IsMemoryAside};
 ghost use Rattle.decision_tables.specs.Some.{HasSome};
-ghost use Rattle.krb_kdc_requests.specs.Call.{call_of};
-ghost use Rattle.krb_kdc_requests.specs.Calls.{AreKeyed, IsKeyed};
-ghost use Rattle.krb_replies.specs.Replies.{Replies};
-ghost use Rattle.pkinit_requests.specs.PkinitRows.{pkinit_rows};
-ghost use Rattle.pkinit_requests.specs.Trust.{trust_of};
+ghost use Rattle.krb_kdc_exchanges.specs.Call.{call_of};
+ghost use Rattle.krb_kdc_exchanges.specs.Calls.{AreKeyed, IsKeyed};
+ghost use Rattle.krb_kdc_exchanges.specs.Replies.{Replies};
+ghost use Rattle.pkinit_validation.specs.PkinitRows.{pkinit_rows};
+ghost use Rattle.pkinit_validation.specs.Trust.{trust_of};
 ghost use Rattle.krb_memory_realms.specs.Realm.{call_to, is_krbtgt};
 
 use crate::laws::has_reply;
 use crate::settings::Settings;
-use key_functions::KeyFunctions;
 use krb_accounts::{
     Account, Accounts, RealmRefusal, are_components, is_realm_name, password_salt, realm_name_of,
 };
 use krb_crypto::CipherSuite;
 use krb_frames::AnswerRefusal;
 use krb_kdc::{LookupCall, answer_by, refusal_of};
-use krb_kdc_requests::Call;
+use krb_kdc_exchanges::Call;
+use krb_messages::{krbtgt, krbtgt_of};
 use krb_time::Moment;
-use krb_types::{krbtgt, krbtgt_of};
 use picky_asn1::wrapper::GeneralStringAsn1;
-use pkinit_requests::RealmPkinit;
+use pkinit_validation::RealmPkinit;
 use std::alloc::Global;
 use std::marker::Model;
+use x509_keys::KeyFunctions;
 
 /// How many random bytes a request takes.
 pub fn words_needed() -> usize

@@ -7,10 +7,10 @@ ghost use Rattle.krb_memory_realms.specs.Answers.{RealmReplies};
 
 use crate::realm::Realm;
 use byte_streams::{Sink, Source};
-use key_functions::KeyFunctions;
 use krb_frames::{AnswerRefusal, Responder, ServeFault, SoleResponder};
 use krb_time::Moment;
 use std::alloc::Global;
+use x509_keys::KeyFunctions;
 
 /// A realm with the key functions that it answers by: the responder of a frame loop.
 #[derive(Clone, Copy)]
@@ -44,8 +44,8 @@ impl<'a, K: KeyFunctions> Responder for Answering<'a, K> {
 
 impl<'a, K: KeyFunctions> SoleResponder for Answering<'a, K> {
     ghost use Rattle.krb_memory_realms.specs.Realm.{call_to};
-    ghost use Rattle.krb_replies.specs.Replies.{one_reply};
-    ghost use Rattle.pkinit_requests.specs.PkinitRows.{pkinit_rows};
+    ghost use Rattle.krb_kdc_exchanges.specs.Replies.{one_reply};
+    ghost use Rattle.pkinit_validation.specs.PkinitRows.{pkinit_rows};
 
     ghost one_reply = { λ own message moment words.
         one_reply (call_to own.realm.now moment words) (pkinit_rows own.realm.now.trust (K.functions own.keys.now)) message };

@@ -2,16 +2,15 @@
 ghost use Rattle.std.specs.Prelude.{◌≡◌, ◌⊎◌, Err, IfOk, IsSome, MatchResult};
 ghost use Rattle.std.specs.Option.{option_copied, option_map};
 ghost use Rattle.krb_accounts.specs.Settings.{AreSettings};
-ghost use Rattle.pkinit_requests.specs.Trust.{trust_of};
+ghost use Rattle.pkinit_validation.specs.Trust.{trust_of};
 ghost use Rattle.krb_accounts.specs.declared.policy.TheConstants.{NO_POLICY};
 ghost use Rattle.krb_memory_realms.specs.Settings.{IsCertificateIf, IsOwnCertificate, settings_by, with_policy};
 
-use key_functions::KeyFunctions;
 use krb_accounts::{Policy, RealmRefusal, Settings as Limits};
-use pkinit_requests::RealmPkinit;
-use pkinit_trust::Anchor;
+use pkinit_validation::{Anchor, RealmPkinit};
 use std::alloc::{AllocError, Global};
 use std::marker::Model;
+use x509_keys::KeyFunctions;
 use x509_spelling::X509Fault;
 
 /// A realm's settings: how far clocks may differ, how long tickets last, and its policy; and for clients that authenticate by certificate

@@ -1,1 +1,3 @@
+pub mod NamesRead
+pub mod PrintedNames
 pub mod ChoiceLaws

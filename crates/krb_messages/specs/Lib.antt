@@ -1,4 +1,11 @@
 pub mod Trees
+pub mod NameText
+pub mod NameReading
+pub mod Names
+pub mod RandomBytes
+pub mod Refusals
+pub mod TicketGranting
+pub mod MessageTrees
 pub mod Messages
 pub mod KrbResults
 pub mod Bodies

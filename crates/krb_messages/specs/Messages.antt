@@ -7,17 +7,17 @@ use Rattle.asn1_der.specs.Tree.{Tree, Writes, wrapped}
 use Rattle.asn1_der.proofs.Spelling.{IsInjective, wrapped-injective}
 use Rattle.decision_tables.specs.One.{IsSole}
 use Rattle.krb_constants.specs.declared.types.TheConstants.{APPLICATION, AP_REP_MSG_TYPE, AP_REQ_MSG_TYPE, AS_REP_MSG_TYPE, AS_REQ_MSG_TYPE, AUTHENTICATOR_TYPE, ENC_AP_REP_PART_TYPE, ENC_AS_REP_PART_TYPE, ENC_TGS_REP_PART_TYPE, ENC_TICKET_PART_TYPE, KRB_ERROR_MSG_TYPE, TGS_REP_MSG_TYPE, TGS_REQ_MSG_TYPE}
-use Rattle.krb_types.specs.declared.data_types.authenticator.AuthenticatorInner.{AuthenticatorInner}
-use Rattle.krb_types.specs.declared.data_types.enc_ap_rep_part.EncApRepPartInner.{EncApRepPartInner}
-use Rattle.krb_types.specs.declared.data_types.enc_ticket_part.EncTicketPartInner.{EncTicketPartInner}
-use Rattle.krb_types.specs.Trees as held
+use Rattle.krb_messages.specs.declared.data_types.authenticator.AuthenticatorInner.{AuthenticatorInner}
+use Rattle.krb_messages.specs.declared.data_types.enc_ap_rep_part.EncApRepPartInner.{EncApRepPartInner}
+use Rattle.krb_messages.specs.declared.data_types.enc_ticket_part.EncTicketPartInner.{EncTicketPartInner}
+use Rattle.krb_messages.specs.Trees as held
 use Rattle.krb_messages.specs.declared.messages.ap_rep.ApRepInner.{ApRepInner}
 use Rattle.krb_messages.specs.declared.messages.ap_req.ApReqInner.{ApReqInner}
 use Rattle.krb_messages.specs.declared.messages.enc_kdc_rep_part.EncKdcRepPart.{EncKdcRepPart}
 use Rattle.krb_messages.specs.declared.messages.kdc_rep.KdcRep.{KdcRep}
 use Rattle.krb_messages.specs.declared.messages.kdc_req.KdcReq.{KdcReq}
 use Rattle.krb_messages.specs.declared.messages.krb_error.KrbErrorInner.{KrbErrorInner}
-use Rattle.krb_messages.specs.Trees as messages
+use Rattle.krb_messages.specs.MessageTrees as messages
 
 -- [APPLICATION 10]
 abbrev pub as_req_tree : KdcReq → Tree

@@ -4,9 +4,8 @@ ghost use Rattle.krb_frames.specs.Tolerance.{Tolerates};
 ghost use Rattle.krb_programs.specs.Devices.{AnswersFailures, IsOutputAt, IsOutputByClock, device, devices};
 
 use byte_streams::{Sink, Source};
-use krb_clock::ClockMoments;
 use krb_frames::{Responder, ServeFault, Tolerant, goes_on, serve};
-use krb_time::Moment;
+use krb_time::{ClockMoments, Moment};
 use std::alloc::Global;
 use std::iter;
 use std::time::Clock;

@@ -2,7 +2,7 @@
 use Rattle.std.proofs.Common.{◌≡◌, true, ◌&&◌, List, Ok, Err, inl, inr, refl, ap, subst, sym, ◌∙◌}
 use Rattle.picky_asn1.specs.Bytes.{Bytes}
 use Rattle.krb_accounts.specs.Names.{IsRealmName, are_components}
-use Rattle.krb_types.specs.TicketGranting.{krbtgt_of}
+use Rattle.krb_messages.specs.TicketGranting.{krbtgt_of}
 use Rattle.krb_client.specs.Asked.{AsAskedRecord}
 use Rattle.krb_client.specs.AsRequest.{AsksAs, IsUnasked, as_asked}
 use Rattle.krb_client.specs.Client.{ClientRecord}
@@ -12,7 +12,7 @@ use Rattle.krb_client.specs.declared.refusal.AskRefusal.TheVariants.{Memory}
 use Rattle.krb_logins.specs.Parties.{LoginRecord}
 use Rattle.krb_logins.specs.Steps.{IsAsAsked}
 use Rattle.krb_logins.specs.declared.refusal.LoginRefusal.TheVariants.{Asked}
-use Rattle.krb_ap_exchange.specs.ApExchanges.{Made}
+use Rattle.krb_logins.specs.ApExchanges.{Made}
 use Rattle.krb_realm.specs.Logins.{AsAsk}
 
 module _ (client : ClientRecord) (named : IsRealmName client.realm) (means : MeansRecord) (login : LoginRecord) where

@@ -3,7 +3,7 @@ use Rattle.std.proofs.Common.{◌≡◌, ℕ, ◌*◌, false, [], ◌∷◌, Som
 use Rattle.std.specs.Option.{option_map_or}
 use Rattle.picky_asn1.specs.Bytes.{Bytes}
 use Rattle.krb_time.specs.Skew.{is_far}
-use Rattle.krb_types.specs.declared.data_types.pa_data.PaData.{PaData}
+use Rattle.krb_messages.specs.declared.data_types.pa_data.PaData.{PaData}
 use Rattle.krb_messages.specs.declared.messages.kdc_rep.KdcRep.{KdcRep}
 use Rattle.krb_messages.specs.declared.messages.kdc_req_body.KdcReqBody.{KdcReqBody}
 use Rattle.krb_crypto.specs.Keys.{KeyRecord}
@@ -11,14 +11,14 @@ use Rattle.krb_crypto.specs.AgreedKeys.{agreed_key}
 use Rattle.krb_accounts.specs.Account.{AccountRecord}
 use Rattle.decision_tables.specs.One.{same_parts}
 use Rattle.decision_tables.specs.Tables.{done}
-use Rattle.pkinit_interface.specs.Calls.{AgreedRecord, PkinitCallRecord}
+use Rattle.krb_kdc_exchanges.specs.PkinitCalls.{AgreedRecord, PkinitCallRecord}
 use Rattle.krb_tickets.specs.Padata.{first_padata, first_of}
 use Rattle.krb_tickets.specs.MethodData.{pa_data_of}
 use Rattle.krb_tickets.specs.Parts.{padata_of}
 use Rattle.krb_tickets.specs.ReplyKeys.{ReplyKeyRecord, agreed_reply_key}
-use Rattle.krb_as.specs.AsTable.{authenticated, authenticated_by}
-use Rattle.krb_kdc_requests.specs.Call.{CallRecord, pkinit_call, skew_of}
-use Rattle.krb_kdc_requests.specs.Calls.{AreKeyed}
+use Rattle.krb_kdc_exchanges.specs.AsTable.{authenticated, authenticated_by}
+use Rattle.krb_kdc_exchanges.specs.Call.{CallRecord, pkinit_call, skew_of}
+use Rattle.krb_kdc_exchanges.specs.Calls.{AreKeyed}
 use Rattle.krb_client.specs.AsRequest.{as_request_of}
 use Rattle.krb_client.specs.Client.{ClientRecord}
 use Rattle.krb_client.specs.declared.refusal.TakeRefusal.{TakeRefusal}
@@ -31,12 +31,12 @@ use Rattle.krb_logins.specs.Parties.{LoginRecord, RealmRecord, RememberedRecord,
 use Rattle.krb_logins.specs.Steps.{AreDecided}
 use Rattle.krb_logins.proofs.Giving.{past_found}
 use Rattle.krb_logins.proofs.Times.{lesser, near}
-use Rattle.key_functions.specs.KeyFunctions.{KeysRecord}
-use Rattle.pkinit_trust.specs.Anchors.{AnchorRecord}
-use Rattle.pkinit_requests.specs.AgreementBytes.{agreement_bytes}
-use Rattle.pkinit_requests.specs.PkinitRows.{pkinit_rows}
-use Rattle.pkinit_requests.specs.PkinitTable.{pkinit_table}
-use Rattle.pkinit_requests.specs.Trust.{TrustRecord}
+use Rattle.x509_keys.specs.KeyFunctions.{KeysRecord}
+use Rattle.pkinit_validation.specs.Anchors.{AnchorRecord}
+use Rattle.pkinit_validation.specs.AgreementBytes.{agreement_bytes}
+use Rattle.pkinit_validation.specs.PkinitRows.{pkinit_rows}
+use Rattle.pkinit_validation.specs.PkinitTable.{pkinit_table}
+use Rattle.pkinit_validation.specs.Trust.{TrustRecord}
 use Rattle.krb_client.specs.Asked.{agreement_part}
 use Rattle.pkinit_clients.specs.Asked.{PkinitAskedRecord}
 use Rattle.pkinit_clients.specs.Faults.{Secret}

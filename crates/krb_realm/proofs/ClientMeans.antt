@@ -3,11 +3,11 @@ use Rattle.std.proofs.Common.{◌≡◌, ℕ, sym, ◌∙◌}
 use Rattle.std.specs.Prelude.{Vec}
 use Rattle.std.specs.Global.{Global}
 use Rattle.picky_asn1.specs.Bytes.{Bytes}
-use Rattle.key_functions.specs.KeyFunctions.{KeysRecord}
+use Rattle.x509_keys.specs.KeyFunctions.{KeysRecord}
 use Rattle.krb_logins.specs.Steps.{AreDecided}
 use Rattle.pkinit_clients.proofs.Decided.{decided_by_certificate}
 use Rattle.pkinit_clients.specs.Means.{by_certificate}
-use Rattle.pkinit_trust.specs.Anchors.{AnchorRecord}
+use Rattle.pkinit_validation.specs.Anchors.{AnchorRecord}
 use Rattle.krb_realm.specs.HeldClients.{client_by}
 use Rattle.krb_realm.specs.declared.client_means.Held as held
 use Rattle.krb_realm.specs.declared.client_means.Held.TheVariants as variant

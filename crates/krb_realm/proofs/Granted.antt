@@ -7,7 +7,7 @@ use Rattle.asn1_leaves.specs.ObjectIdentifier.{oid_content, subidentifier}
 use Rattle.asn1_leaves.specs.declared.date.GeneralizedTime.{GeneralizedTime}
 use Rattle.asn1_der.specs.Tree.{IsWhole}
 use Rattle.asn1_der.proofs.Spelling.{whole-wrapped}
-use Rattle.asn1_elements.specs.Raw.{Raw, raw_tree}
+use Rattle.picky_asn1_der.specs.Raw.{Raw, raw_tree}
 use Rattle.picky_asn1.specs.BitString.{Bits}
 use Rattle.picky_asn1.specs.Bytes.{Bytes}
 use Rattle.krb_time.specs.SecondOf.{IsSecondOf}
@@ -15,30 +15,30 @@ use Rattle.krb_time.specs.Skew.{is_far}
 use Rattle.krb_time.specs.Times.{moment_at}
 use Rattle.krb_time.specs.Units.{Micros, Seconds}
 use Rattle.krb_constants.specs.declared.error_codes.TheConstants.{KDC_ERR_KEY_TOO_WEAK}
-use Rattle.krb_types.specs.RandomBytes.{Random}
-use Rattle.krb_types.specs.Refusals.{Code}
+use Rattle.krb_messages.specs.RandomBytes.{Random}
+use Rattle.krb_messages.specs.Refusals.{Code}
 use Rattle.krb_constants.specs.declared.error_codes.TheConstants.{KDC_ERR_PADATA_TYPE_NOSUPP, KDC_ERR_PREAUTH_FAILED, KRB_AP_ERR_SKEW, KRB_ERR_GENERIC}
 use Rattle.krb_messages.specs.declared.messages.kdc_req_body.KdcReqBody.{KdcReqBody}
-use Rattle.pkinit_interface.specs.Calls.{AgreedRecord, PkinitCallRecord}
+use Rattle.krb_kdc_exchanges.specs.PkinitCalls.{AgreedRecord, PkinitCallRecord}
 use Rattle.krb_messages.specs.Bodies.{body_bytes}
-use Rattle.key_functions.specs.KeyFunctions.{KeysRecord}
-use Rattle.key_functions.specs.KeyFunctions.TheirValue.{WholeValue}
-use Rattle.key_functions.specs.declared.functions.Signed.{Signed}
+use Rattle.x509_keys.specs.KeyFunctions.{KeysRecord}
+use Rattle.x509_keys.specs.KeyFunctions.TheirValue.{WholeValue}
+use Rattle.x509_keys.specs.declared.functions.Signed.{Signed}
 use Rattle.cms_signed_data.specs.SignedParts.{SignedParts}
 use Rattle.cms_signed_data.specs.Written.{IsWritten, signed_bytes}
 use Rattle.cms_signed_data.specs.WrittenLaws.{written_is, written_parts}
 use Rattle.pkinit_messages.specs.declared.auth_pack.AuthPack.{AuthPack}
-use Rattle.pkinit_trust.specs.Anchors.{AnchorRecord}
-use Rattle.pkinit_trust.specs.Certificates.{IsCertificate, ReadRecord}
-use Rattle.pkinit_requests.specs.AgreementBytes.{agreement_bytes}
-use Rattle.pkinit_requests.specs.PublicKeys.{IsPublicKey}
-use Rattle.pkinit_requests.specs.Replies.{dh_key_data, dh_reply_bytes, dh_reply_of, key_info_bytes, key_info_of, pk_as_rep}
-use Rattle.pkinit_requests.specs.declared.public_key.AgreementPublicKey.{AgreementPublicKey}
-use Rattle.pkinit_requests.specs.AuthPackFields.{AuthPackFieldsRecord}
-use Rattle.pkinit_requests.specs.AuthPacks as realm
-use Rattle.pkinit_requests.specs.Judging.{JudgingRecord, judging_by}
-use Rattle.pkinit_requests.specs.PkinitTable.{agreed_on, auth_pack_fields, is_auth_data, of_auth_pack, of_content, pkinit_table}
-use Rattle.pkinit_requests.specs.Trust.{TrustRecord}
+use Rattle.pkinit_validation.specs.Anchors.{AnchorRecord}
+use Rattle.pkinit_validation.specs.Certificates.{IsCertificate, ReadRecord}
+use Rattle.pkinit_validation.specs.AgreementBytes.{agreement_bytes}
+use Rattle.pkinit_validation.specs.PublicKeys.{IsPublicKey}
+use Rattle.pkinit_validation.specs.Replies.{dh_key_data, dh_reply_bytes, dh_reply_of, key_info_bytes, key_info_of, pk_as_rep}
+use Rattle.pkinit_validation.specs.declared.public_key.AgreementPublicKey.{AgreementPublicKey}
+use Rattle.pkinit_validation.specs.AuthPackFields.{AuthPackFieldsRecord}
+use Rattle.pkinit_validation.specs.AuthPacks as realm
+use Rattle.pkinit_validation.specs.Judging.{JudgingRecord, judging_by}
+use Rattle.pkinit_validation.specs.PkinitTable.{agreed_on, auth_pack_fields, is_auth_data, of_auth_pack, of_content, pkinit_table}
+use Rattle.pkinit_validation.specs.Trust.{TrustRecord}
 use Rattle.pkinit_clients.specs.AuthPacks as client
 use Rattle.pkinit_clients.specs.Requests.{IsNoPkAsReq, IsPkAsReqOf, pack_bytes, pk_as_req_bytes, pk_as_req_of}
 use Rattle.krb_realm.specs.Agreements.{AreAgreeing, IsGrantedAgreement, IsKeyInfoText, IsPackText, Signs}

@@ -2,7 +2,7 @@
 use Rattle.std.proofs.Common.{◌≡◌, true, Option, None, Some, is_some, refl}
 use Rattle.std.specs.FinMap.{get}
 use Rattle.krb_accounts.specs.Account.{AccountRecord}
-use Rattle.krb_types.specs.TicketGranting.{krbtgt_of}
+use Rattle.krb_messages.specs.TicketGranting.{krbtgt_of}
 use Rattle.krb_logins.specs.Honest.{IsGranting}
 use Rattle.krb_realm.specs.Logins.{realm_record}
 use Rattle.krb_memory_realms.specs.Realm.{RealmState, has_krbtgt}

@@ -1,13 +1,13 @@
 -- A login by certificate of parties as their parts hold them.
 use Rattle.std.proofs.Common.{◌≡◌, subst}
 use Rattle.picky_asn1.specs.Bytes.{Bytes}
-use Rattle.key_functions.specs.KeyFunctions.{KeysRecord}
+use Rattle.x509_keys.specs.KeyFunctions.{KeysRecord}
 use Rattle.krb_client.specs.Client.{ClientRecord}
 use Rattle.krb_service.specs.Service.{ServiceRecord}
 use Rattle.krb_logins.specs.Parties.{LoginRecord, RealmRecord, RememberedRecord}
 use Rattle.krb_realm.specs.HonestByCertificate.{IsHonestByCertificate}
-use Rattle.pkinit_trust.specs.Anchors.{AnchorRecord}
-use Rattle.pkinit_requests.specs.Trust.{TrustRecord}
+use Rattle.pkinit_validation.specs.Anchors.{AnchorRecord}
+use Rattle.pkinit_validation.specs.Trust.{TrustRecord}
 
 -- client and realm with their key functions
 pub record PartiesRecord : Type 0 where

@@ -1,18 +1,18 @@
 -- An exchange that is judged honest is so.
 use Rattle.std.proofs.Common.{◌≡◌, Some, sym, ap, ◌∙◌, subst}
 use Rattle.std.specs.Prelude.{Ok}
-use Rattle.asn1_elements.specs.Raw.{Raw}
+use Rattle.picky_asn1_der.specs.Raw.{Raw}
 use Rattle.picky_asn1.specs.Bytes.{Bytes}
 use Rattle.krb_time.specs.Units.{Micros}
-use Rattle.krb_types.specs.RandomBytes.{Random}
-use Rattle.krb_types.specs.declared.data_types.pa_data.PaData.{PaData}
+use Rattle.krb_messages.specs.RandomBytes.{Random}
+use Rattle.krb_messages.specs.declared.data_types.pa_data.PaData.{PaData}
 use Rattle.krb_messages.specs.declared.messages.kdc_req_body.KdcReqBody.{KdcReqBody}
-use Rattle.pkinit_interface.specs.Calls.{AgreedRecord, PkinitCallRecord}
-use Rattle.key_functions.specs.KeyFunctions.{KeysRecord}
-use Rattle.pkinit_requests.specs.PublicKeys.{IsPublicKey}
-use Rattle.pkinit_requests.specs.declared.public_key.AgreementPublicKey.{AgreementPublicKey}
-use Rattle.pkinit_requests.specs.PkinitTable.{pkinit_table}
-use Rattle.pkinit_requests.specs.Trust.{TrustRecord}
+use Rattle.krb_kdc_exchanges.specs.PkinitCalls.{AgreedRecord, PkinitCallRecord}
+use Rattle.x509_keys.specs.KeyFunctions.{KeysRecord}
+use Rattle.pkinit_validation.specs.PublicKeys.{IsPublicKey}
+use Rattle.pkinit_validation.specs.declared.public_key.AgreementPublicKey.{AgreementPublicKey}
+use Rattle.pkinit_validation.specs.PkinitTable.{pkinit_table}
+use Rattle.pkinit_validation.specs.Trust.{TrustRecord}
 use Rattle.krb_client.specs.Asked.{agreement_part}
 use Rattle.pkinit_clients.specs.Asked.{PkinitAskedRecord}
 use Rattle.pkinit_clients.specs.Means.{IsPkinitPadata}

@@ -4,8 +4,8 @@ use Rattle.krb_crypto.specs.Keys.{KeyRecord}
 use Rattle.krb_client.specs.Means.{MeansRecord}
 use Rattle.krb_client.specs.EncryptedTimestamps.{by_key}
 use Rattle.krb_service.specs.Service.{ServiceRecord}
-use Rattle.key_functions.specs.KeyFunctions.{no_functions}
-use Rattle.pkinit_interface.specs.Rows.{PkinitRows}
+use Rattle.x509_keys.specs.KeyFunctions.{no_functions}
+use Rattle.krb_kdc_exchanges.specs.Rows.{PkinitRows}
 use Rattle.krb_logins.specs.LoginRun.{Login, LoginRun}
 use Rattle.krb_logins.specs.Parties.{LoginRecord, RealmRecord, RememberedRecord}
 use Rattle.krb_logins.specs.declared.refusal.LoginRefusal.{LoginRefusal}

@@ -16,3 +16,5 @@ pub mod Trusting
 pub mod Granted
 pub mod Taken
 pub mod ByCertificate
+mod ByRsa
+mod PublicKeys

@@ -1,14 +1,14 @@
 -- The login, by its exchanges.
 use Rattle.std.proofs.Common.{◌≡◌, Result, Ok, Err, inl, inr, refl}
 use Rattle.krb_service.specs.Seen.{SeenRecord, IsWindow}
-use Rattle.pkinit_interface.specs.Rows.{PkinitRows}
+use Rattle.krb_kdc_exchanges.specs.Rows.{PkinitRows}
 use Rattle.krb_client.specs.Client.{ClientRecord, CredentialRecord}
 use Rattle.krb_client.specs.Means.{MeansRecord}
 use Rattle.krb_service.specs.Service.{ServiceRecord}
 use Rattle.krb_logins.specs.LoginRun.{ApExchange, Exchanges, Login, LoginRun}
 use Rattle.krb_logins.specs.Parties.{LoginRecord, RealmRecord, RememberedRecord}
 use Rattle.krb_logins.specs.declared.refusal.LoginRefusal.{LoginRefusal}
-use Rattle.krb_ap_exchange.specs.ApExchanges.{Remembers}
+use Rattle.krb_logins.specs.ApExchanges.{Remembers}
 
 module _ (client : ClientRecord) (means : MeansRecord) (realm : RealmRecord) (rows : PkinitRows) (service : ServiceRecord) (login : LoginRecord) (before : RememberedRecord) (seen : SeenRecord) (result : Result Login LoginRefusal) where
   pub no_credential : (refusal : LoginRefusal) → Exchanges client means realm rows login (Err refusal) → result ≡ Err refusal → IsWindow seen before.admitted → seen.greatest ≡ before.greatest

@@ -2,13 +2,13 @@
 use Rattle.std.proofs.Common.{◌≡◌, Result, subst}
 use Rattle.krb_client.specs.Client.{ClientRecord}
 use Rattle.krb_client.specs.Means.{MeansRecord}
-use Rattle.pkinit_interface.specs.Rows.{PkinitRows}
+use Rattle.krb_kdc_exchanges.specs.Rows.{PkinitRows}
 use Rattle.krb_service.specs.Seen.{SeenRecord}
 use Rattle.krb_service.specs.Service.{ServiceRecord}
 use Rattle.krb_logins.specs.LoginRun.{Login, LoginRun}
 use Rattle.krb_logins.specs.Parties.{LoginRecord, RealmRecord, RememberedRecord}
 use Rattle.krb_logins.specs.declared.refusal.LoginRefusal.{LoginRefusal}
-use Rattle.krb_ap_exchange.specs.ApExchanges.{Remembers}
+use Rattle.krb_logins.specs.ApExchanges.{Remembers}
 
 module _ (realm : RealmRecord) (rows : PkinitRows) (service : ServiceRecord) (before : RememberedRecord) (login : LoginRecord) (result : Result Login LoginRefusal) where
   module _ (own wanted : ClientRecord) (same : own ≡ wanted) (held means : MeansRecord) (are : held ≡ means) where

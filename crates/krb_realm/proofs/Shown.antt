@@ -4,7 +4,7 @@ use Rattle.std.specs.Prelude.{ℤ, not}
 use Rattle.std.specs.Bool.{nat_eq}
 use Rattle.std.specs.Cmp.Lexicographic.{pointwise}
 use Rattle.sha2.specs.Sha256.{sha256}
-use Rattle.asn1_elements.specs.Raw.{Raw}
+use Rattle.picky_asn1_der.specs.Raw.{Raw}
 use Rattle.picky_asn1.specs.Bytes.{Bytes}
 use Rattle.picky_asn1.specs.Integer.{integer_content}
 use Rattle.picky_asn1.specs.Numbers.{is_number}
@@ -15,11 +15,11 @@ use Rattle.krb_time.specs.Skew.{is_far}
 use Rattle.krb_time.specs.SecondOf.{sole_second}
 use Rattle.krb_constants.specs.declared.error_codes.TheConstants.{KDC_ERR_KEY_TOO_WEAK}
 use Rattle.krb_constants.specs.declared.error_codes.TheConstants.{KDC_ERR_PADATA_TYPE_NOSUPP, KDC_ERR_PREAUTH_FAILED, KRB_AP_ERR_SKEW, KRB_ERR_GENERIC}
-use Rattle.krb_types.specs.Refusals.{Code}
-use Rattle.pkinit_interface.specs.Calls.{AgreedRecord, PkinitCallRecord}
-use Rattle.key_functions.specs.KeyFunctions.{KeysRecord}
-use Rattle.key_functions.specs.KeyFunctions.TheirValue.{ValueBits, WholeValue}
-use Rattle.key_functions.specs.declared.functions.Signed.{Signed}
+use Rattle.krb_messages.specs.Refusals.{Code}
+use Rattle.krb_kdc_exchanges.specs.PkinitCalls.{AgreedRecord, PkinitCallRecord}
+use Rattle.x509_keys.specs.KeyFunctions.{KeysRecord}
+use Rattle.x509_keys.specs.KeyFunctions.TheirValue.{ValueBits, WholeValue}
+use Rattle.x509_keys.specs.declared.functions.Signed.{Signed}
 use Rattle.cms_signed_data.specs.SignedContents.{IsSignedContent}
 use Rattle.cms_signed_data.specs.SignedLaws.{one_content}
 use Rattle.cms_signed_data.specs.SignedParts.{SignedParts}
@@ -29,27 +29,27 @@ use Rattle.pkinit_messages.specs.declared.auth_pack.AuthPack.{AuthPack}
 use Rattle.pkinit_messages.specs.declared.kdc_dh_key_info.KdcDhKeyInfo.{KdcDhKeyInfo}
 use Rattle.pkinit_messages.specs.declared.pa_pk_as_rep.PaPkAsRep.{PaPkAsRep}
 use Rattle.pkinit_messages.specs.declared.pa_pk_as_req.PaPkAsReq.{PaPkAsReq}
-use Rattle.pkinit_trust.specs.Accepted.{accepted}
-use Rattle.pkinit_trust.specs.Anchors.{AnchorRecord}
-use Rattle.pkinit_trust.specs.Certificates.{IsCertificate, ReadRecord, name_bytes, sole_certificate}
-use Rattle.pkinit_trust.specs.Expected.{ExpectedRecord}
-use Rattle.pkinit_trust.specs.Judged.{JudgedRecord}
-use Rattle.pkinit_trust.specs.Refusals.{code_of}
-use Rattle.pkinit_trust.specs.SignedContents.{judged_in}
-use Rattle.pkinit_trust.specs.Signers.{signed_by}
-use Rattle.pkinit_trust.specs.Trusted.{trusted, trusted_by}
-use Rattle.pkinit_trust.specs.declared.refusal.TrustRefusal.{TrustRefusal}
-use Rattle.pkinit_trust.specs.declared.refusal.TrustRefusal.TheVariants.{CantVerifyCertificate, InvalidSignature}
-use Rattle.pkinit_requests.specs.AgreementBytes.{agreement_bytes}
-use Rattle.pkinit_requests.specs.PublicKeys.{IsPublicKey, sole_public_key}
-use Rattle.pkinit_requests.specs.Replies.{dh_key_data, dh_reply_bytes, dh_reply_of, key_info_bytes, key_info_of, pk_as_rep}
+use Rattle.pkinit_validation.specs.Accepted.{accepted}
+use Rattle.pkinit_validation.specs.Anchors.{AnchorRecord}
+use Rattle.pkinit_validation.specs.Certificates.{IsCertificate, ReadRecord, name_bytes, sole_certificate}
+use Rattle.pkinit_validation.specs.Expected.{ExpectedRecord}
+use Rattle.pkinit_validation.specs.Judged.{JudgedRecord}
+use Rattle.pkinit_validation.specs.Refusals.{code_of}
+use Rattle.pkinit_validation.specs.SignedContents.{judged_in}
+use Rattle.pkinit_validation.specs.Signers.{signed_by}
+use Rattle.pkinit_validation.specs.Trusted.{trusted, trusted_by}
+use Rattle.pkinit_validation.specs.declared.refusal.TrustRefusal.{TrustRefusal}
+use Rattle.pkinit_validation.specs.declared.refusal.TrustRefusal.TheVariants.{CantVerifyCertificate, InvalidSignature}
+use Rattle.pkinit_validation.specs.AgreementBytes.{agreement_bytes}
+use Rattle.pkinit_validation.specs.PublicKeys.{IsPublicKey, sole_public_key}
+use Rattle.pkinit_validation.specs.Replies.{dh_key_data, dh_reply_bytes, dh_reply_of, key_info_bytes, key_info_of, pk_as_rep}
 use Rattle.cms_signed_data.specs.WrittenOnce.{one_written}
-use Rattle.pkinit_requests.specs.declared.public_key.AgreementPublicKey.{AgreementPublicKey}
-use Rattle.pkinit_requests.specs.AuthPackFields.{AuthPackFieldsRecord}
-use Rattle.pkinit_requests.specs.AuthPacks.{IsAuthPack, IsPaPkAsReq, sole_auth_pack, sole_pa_pk_as_req}
-use Rattle.pkinit_requests.specs.Judging.{JudgingRecord, judging_by}
-use Rattle.pkinit_requests.specs.PkinitTable.{agreed_on, auth_pack_fields, is_auth_data, of_auth_pack, of_content, of_request, of_signed, pkinit_table, signed_by_client}
-use Rattle.pkinit_requests.specs.Trust.{TrustRecord}
+use Rattle.pkinit_validation.specs.declared.public_key.AgreementPublicKey.{AgreementPublicKey}
+use Rattle.pkinit_validation.specs.AuthPackFields.{AuthPackFieldsRecord}
+use Rattle.pkinit_validation.specs.AuthPacks.{IsAuthPack, IsPaPkAsReq, sole_auth_pack, sole_pa_pk_as_req}
+use Rattle.pkinit_validation.specs.Judging.{JudgingRecord, judging_by}
+use Rattle.pkinit_validation.specs.PkinitTable.{agreed_on, auth_pack_fields, is_auth_data, of_auth_pack, of_content, of_request, of_signed, pkinit_table, signed_by_client}
+use Rattle.pkinit_validation.specs.Trust.{TrustRecord}
 use Rattle.pkinit_clients.specs.Asked.{PkinitAskedRecord, expected_realm}
 use Rattle.pkinit_clients.specs.AuthPacks.{auth_data}
 use Rattle.pkinit_clients.specs.Replies as client

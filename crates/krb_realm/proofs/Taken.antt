@@ -7,13 +7,13 @@ use Rattle.asn1_der.proofs.Spelling.{whole-wrapped}
 use Rattle.picky_asn1.specs.BitString.{Bits, bit_content, is_bit_string}
 use Rattle.picky_asn1.specs.Bytes.{Bytes}
 use Rattle.picky_asn1.specs.Numbers.{is_number}
-use Rattle.key_functions.specs.KeyFunctions.{KeysRecord}
-use Rattle.key_functions.specs.KeyFunctions.TheirValue.{ValueBits}
-use Rattle.key_functions.specs.declared.functions.Signed.{Signed}
+use Rattle.x509_keys.specs.KeyFunctions.{KeysRecord}
+use Rattle.x509_keys.specs.KeyFunctions.TheirValue.{ValueBits}
+use Rattle.x509_keys.specs.declared.functions.Signed.{Signed}
 use Rattle.cms_signed_data.specs.SignedParts.{SignedParts}
 use Rattle.cms_signed_data.specs.Written.{IsWritten}
 use Rattle.cms_signed_data.specs.WrittenLaws.{written_is, written_parts}
-use Rattle.pkinit_requests.specs.Replies.{dh_key_data, dh_reply_bytes, dh_reply_of, key_info_bytes, key_info_of}
+use Rattle.pkinit_validation.specs.Replies.{dh_key_data, dh_reply_bytes, dh_reply_of, key_info_bytes, key_info_of}
 use Rattle.pkinit_clients.specs.Asked.{PkinitAskedRecord, expected_realm}
 use Rattle.pkinit_clients.specs.Faults.{Secret}
 use Rattle.pkinit_clients.specs.Replies.{IsKdcDhKeyInfo, IsPaPkAsRep, is_dh_key_data, of_content, of_key_data, secret_of}

@@ -8,18 +8,18 @@ use Rattle.picky_asn1.specs.Integer.{integer_content}
 use Rattle.decision_tables.specs.Tables.{done}
 use Rattle.x509_certificates.specs.contracts.certificate.CertificateSpelled.TheImpl as certificate_impl
 use Rattle.x509_certificates.specs.declared.certificate.Certificate.{Certificate}
-use Rattle.key_functions.specs.KeyFunctions.{KeysRecord}
-use Rattle.key_functions.specs.declared.functions.Signed.{Signed}
+use Rattle.x509_keys.specs.KeyFunctions.{KeysRecord}
+use Rattle.x509_keys.specs.declared.functions.Signed.{Signed}
 use Rattle.cms_signed_data.specs.Written.{IsWritten, signed_bytes}
 use Rattle.cms_signed_data.specs.WrittenLaws.{written_parts}
-use Rattle.pkinit_trust.specs.Certificates.{IsCertificate, ReadRecord, name_bytes}
-use Rattle.pkinit_trust.specs.Expected.{ExpectedRecord}
-use Rattle.pkinit_trust.specs.Judged.{JudgedRecord}
-use Rattle.pkinit_trust.specs.SignedContents.{judged_in}
-use Rattle.pkinit_trust.specs.Signers.{signed_by}
-use Rattle.pkinit_trust.specs.Trusted.{trusted}
-use Rattle.pkinit_trust.specs.declared.refusal.TrustRefusal.{TrustRefusal}
-use Rattle.pkinit_trust.specs.declared.refusal.TrustRefusal.TheVariants.{InvalidSignature}
+use Rattle.pkinit_validation.specs.Certificates.{IsCertificate, ReadRecord, name_bytes}
+use Rattle.pkinit_validation.specs.Expected.{ExpectedRecord}
+use Rattle.pkinit_validation.specs.Judged.{JudgedRecord}
+use Rattle.pkinit_validation.specs.SignedContents.{judged_in}
+use Rattle.pkinit_validation.specs.Signers.{signed_by}
+use Rattle.pkinit_validation.specs.Trusted.{trusted}
+use Rattle.pkinit_validation.specs.declared.refusal.TrustRefusal.{TrustRefusal}
+use Rattle.pkinit_validation.specs.declared.refusal.TrustRefusal.TheVariants.{InvalidSignature}
 use Rattle.krb_realm.specs.Agreements.{IsTrusted, Signs}
 use Rattle.krb_realm.proofs.Rows.{by_refuse, no_others}
 

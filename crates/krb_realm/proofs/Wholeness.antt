@@ -1,12 +1,12 @@
 -- Elements that are there can be written.
 use Rattle.std.proofs.Common.{◌≡◌, ℕ, Bool, true, false, List, ◌∙◌}
-use Rattle.asn1_elements.specs.Raw.{Raw, has_low_number, raw_tree}
+use Rattle.picky_asn1_der.specs.Raw.{Raw, has_low_number, raw_tree}
 use Rattle.asn1_der.specs.Length.{element}
 use Rattle.asn1_der.specs.Tree.{IsWhole, der, leaf}
 use Rattle.asn1_der.proofs.Elements.{element-split}
 use Rattle.picky_asn1.specs.BitString.{bit_content, is_bit_string}
-use Rattle.pkinit_requests.specs.PublicKeys.{IsPublicKey}
-use Rattle.pkinit_requests.specs.declared.public_key.AgreementPublicKey.{AgreementPublicKey}
+use Rattle.pkinit_validation.specs.PublicKeys.{IsPublicKey}
+use Rattle.pkinit_validation.specs.declared.public_key.AgreementPublicKey.{AgreementPublicKey}
 
 -- what is written as an element is there
 there : (valid : Bool) (first : ℕ) (content : List ℕ) (other : ℕ) (held : List ℕ) → der (leaf valid first content) ≡ element other held → IsWhole (leaf valid first content)

@@ -7,9 +7,9 @@ use Rattle.x509_algorithms.specs.declared.algorithm_identifier.AlgorithmIdentifi
 use Rattle.x509_certificates.specs.contracts.certificate.CertificateSpelled.TheImpl as certificate
 use Rattle.x509_certificates.specs.declared.certificate.Certificate.{Certificate}
 use Rattle.x509_oids.specs.Identifiers as oids
-use Rattle.x509_parts.specs.contracts.raw_algorithm_identifier.RawAlgorithmIdentifierSpelled.TheImpl as raw_spelled
-use Rattle.key_functions.specs.Encodings.{HasEncoding}
-use Rattle.key_functions.specs.declared.functions.Signed.{Signed}
+use Rattle.x509_fields.specs.contracts.raw_algorithm_identifier.RawAlgorithmIdentifierSpelled.TheImpl as raw_spelled
+use Rattle.x509_keys.specs.Encodings.{HasEncoding}
+use Rattle.x509_keys.specs.declared.functions.Signed.{Signed}
 use Rattle.cms_signed_data.specs.PartSpellings.{PartSpellings}
 use Rattle.cms_signed_data.specs.contracts.form.ContentInfoOfForm.TheImpl as of_form
 use Rattle.cms_signed_data.specs.contracts.signer_info.SignerInfoSpelled.TheImpl as signer_info

@@ -1,25 +1,25 @@
 -- What client and realm have to have in common to agree on a secret by certificate, and what they agree on (RFC 4556, section 3.2).
 use Rattle.std.specs.Prelude.{◌≡◌, ℤ, true, Some, Result, Ok}
 use Rattle.asn1_leaves.specs.declared.date.GeneralizedTime.{GeneralizedTime}
-use Rattle.asn1_elements.specs.Raw.{Raw}
+use Rattle.picky_asn1_der.specs.Raw.{Raw}
 use Rattle.picky_asn1.specs.BitString.{Bits}
 use Rattle.picky_asn1.specs.Bytes.{Bytes}
 use Rattle.krb_time.specs.SecondOf.{IsSecondOf}
 use Rattle.krb_time.specs.Units.{Micros}
-use Rattle.krb_types.specs.Refusals.{Code}
+use Rattle.krb_messages.specs.Refusals.{Code}
 use Rattle.krb_messages.specs.declared.messages.kdc_req_body.KdcReqBody.{KdcReqBody}
-use Rattle.pkinit_interface.specs.Calls.{AgreedRecord}
+use Rattle.krb_kdc_exchanges.specs.PkinitCalls.{AgreedRecord}
 use Rattle.x509_certificates.specs.declared.certificate.Certificate.{Certificate}
-use Rattle.key_functions.specs.KeyFunctions.{KeysRecord}
-use Rattle.key_functions.specs.KeyFunctions.TheirValue.{ValueBits, WholeValue}
-use Rattle.key_functions.specs.declared.functions.Signed.{Signed}
+use Rattle.x509_keys.specs.KeyFunctions.{KeysRecord}
+use Rattle.x509_keys.specs.KeyFunctions.TheirValue.{ValueBits, WholeValue}
+use Rattle.x509_keys.specs.declared.functions.Signed.{Signed}
 use Rattle.cms_signed_data.specs.Written.{IsWritten, signed_bytes}
-use Rattle.pkinit_trust.specs.Accepted.{accepted}
-use Rattle.pkinit_trust.specs.Certificates.{IsCertificate, ReadRecord}
-use Rattle.pkinit_trust.specs.Expected.{ExpectedRecord}
-use Rattle.pkinit_requests.specs.PublicKeys.{IsPublicKey}
-use Rattle.pkinit_requests.specs.Replies.{dh_key_data, dh_reply_bytes, dh_reply_of, key_info_bytes, key_info_of}
-use Rattle.pkinit_requests.specs.declared.public_key.AgreementPublicKey.{AgreementPublicKey}
+use Rattle.pkinit_validation.specs.Accepted.{accepted}
+use Rattle.pkinit_validation.specs.Certificates.{IsCertificate, ReadRecord}
+use Rattle.pkinit_validation.specs.Expected.{ExpectedRecord}
+use Rattle.pkinit_validation.specs.PublicKeys.{IsPublicKey}
+use Rattle.pkinit_validation.specs.Replies.{dh_key_data, dh_reply_bytes, dh_reply_of, key_info_bytes, key_info_of}
+use Rattle.pkinit_validation.specs.declared.public_key.AgreementPublicKey.{AgreementPublicKey}
 use Rattle.pkinit_clients.specs.AuthPacks.{auth_data}
 use Rattle.pkinit_clients.specs.Requests.{pack_bytes}
 

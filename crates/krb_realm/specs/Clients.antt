@@ -11,8 +11,8 @@ use Rattle.krb_client.specs.Means.{MeansRecord}
 use Rattle.krb_client.specs.EncryptedTimestamps.{by_key}
 use Rattle.krb_client.specs.declared.refusal.AskRefusal.{AskRefusal}
 use Rattle.krb_client.specs.declared.refusal.AskRefusal.TheVariants.{BadCertificate, BadName, Memory}
-use Rattle.key_functions.specs.KeyFunctions.{KeysRecord}
-use Rattle.pkinit_trust.specs.Anchors.{AnchorRecord}
+use Rattle.x509_keys.specs.KeyFunctions.{KeysRecord}
+use Rattle.pkinit_validation.specs.Anchors.{AnchorRecord}
 use Rattle.pkinit_clients.specs.Means.{by_certificate}
 use Rattle.krb_memory_realms.specs.Settings.{IsCertificateIf}
 

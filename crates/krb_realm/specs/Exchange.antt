@@ -1,11 +1,11 @@
 -- Which AS exchanges by certificate are honest (RFC 4556, section 3.2).
 use Rattle.std.specs.Prelude.{◌≡◌, Some}
 use Rattle.picky_asn1.specs.Bytes.{Bytes}
-use Rattle.pkinit_interface.specs.Calls.{PkinitCallRecord}
-use Rattle.key_functions.specs.KeyFunctions.{KeysRecord}
-use Rattle.pkinit_trust.specs.Anchors.{AnchorRecord}
-use Rattle.pkinit_requests.specs.AgreementBytes.{agreement_bytes}
-use Rattle.pkinit_requests.specs.Trust.{TrustRecord}
+use Rattle.krb_kdc_exchanges.specs.PkinitCalls.{PkinitCallRecord}
+use Rattle.x509_keys.specs.KeyFunctions.{KeysRecord}
+use Rattle.pkinit_validation.specs.Anchors.{AnchorRecord}
+use Rattle.pkinit_validation.specs.AgreementBytes.{agreement_bytes}
+use Rattle.pkinit_validation.specs.Trust.{TrustRecord}
 use Rattle.pkinit_clients.specs.Asked.{PkinitAskedRecord, expected_realm}
 use Rattle.krb_realm.specs.Agreements.{AreAgreeing, IsKeyInfoText, IsPackText, IsTrusted}
 use Rattle.krb_realm.specs.Honest.{expected_client}

@@ -2,13 +2,13 @@
 use Rattle.std.specs.Prelude.{ℕ}
 use Rattle.picky_asn1.specs.Bytes.{Bytes}
 use Rattle.krb_time.specs.Units.{Micros}
-use Rattle.krb_types.specs.RandomBytes.{Random}
-use Rattle.krb_kdc_requests.specs.Call.{CallRecord, pkinit_call}
+use Rattle.krb_messages.specs.RandomBytes.{Random}
+use Rattle.krb_kdc_exchanges.specs.Call.{CallRecord, pkinit_call}
 use Rattle.krb_client.specs.Client.{ClientRecord}
 use Rattle.krb_client.specs.Means.{MeansRecord}
-use Rattle.key_functions.specs.KeyFunctions.{KeysRecord}
-use Rattle.pkinit_trust.specs.Anchors.{AnchorRecord}
-use Rattle.pkinit_requests.specs.Trust.{TrustRecord}
+use Rattle.x509_keys.specs.KeyFunctions.{KeysRecord}
+use Rattle.pkinit_validation.specs.Anchors.{AnchorRecord}
+use Rattle.pkinit_validation.specs.Trust.{TrustRecord}
 use Rattle.krb_client.specs.Asked.{agreement_part}
 use Rattle.pkinit_clients.specs.Asked.{PkinitAskedRecord}
 use Rattle.pkinit_clients.specs.Means.{IsPkinitPadata, reply_key, sole_pkinit_padata}

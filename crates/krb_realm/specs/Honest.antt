@@ -3,13 +3,13 @@ use Rattle.std.specs.Prelude.{◌≡◌, false, Some, pos}
 use Rattle.picky_asn1.specs.Bytes.{Bytes}
 use Rattle.krb_time.specs.Skew.{is_far}
 use Rattle.krb_time.specs.Units.{Micros}
-use Rattle.pkinit_interface.specs.Calls.{PkinitCallRecord}
-use Rattle.key_functions.specs.KeyFunctions.{KeysRecord}
-use Rattle.pkinit_trust.specs.Anchors.{AnchorRecord}
-use Rattle.pkinit_trust.specs.Certificates.{IsCertificate, ReadRecord}
-use Rattle.pkinit_trust.specs.Expected.{ExpectedRecord}
-use Rattle.pkinit_requests.specs.AgreementBytes.{agreement_bytes}
-use Rattle.pkinit_requests.specs.Trust.{TrustRecord}
+use Rattle.krb_kdc_exchanges.specs.PkinitCalls.{PkinitCallRecord}
+use Rattle.x509_keys.specs.KeyFunctions.{KeysRecord}
+use Rattle.pkinit_validation.specs.Anchors.{AnchorRecord}
+use Rattle.pkinit_validation.specs.Certificates.{IsCertificate, ReadRecord}
+use Rattle.pkinit_validation.specs.Expected.{ExpectedRecord}
+use Rattle.pkinit_validation.specs.AgreementBytes.{agreement_bytes}
+use Rattle.pkinit_validation.specs.Trust.{TrustRecord}
 use Rattle.pkinit_clients.specs.Asked.{PkinitAskedRecord, expected_realm}
 use Rattle.krb_realm.specs.Agreements.{AreAgreeing, IsKeyInfoText, IsPackText, IsTrusted, Signs}
 

@@ -1,18 +1,18 @@
 -- Which logins by certificate are honest (RFC 4556, section 3.2).
 use Rattle.std.specs.Prelude.{◌≡◌, Some}
 use Rattle.picky_asn1.specs.Bytes.{Bytes}
-use Rattle.krb_types.specs.TicketGranting.{krbtgt_of}
+use Rattle.krb_messages.specs.TicketGranting.{krbtgt_of}
 use Rattle.krb_client.specs.Asked.{agreement_part}
 use Rattle.krb_client.specs.Client.{ClientRecord}
 use Rattle.krb_service.specs.Service.{ServiceRecord}
 use Rattle.krb_logins.specs.Authenticated.{first_body}
 use Rattle.krb_logins.specs.Honest.{IsHonestLogin}
 use Rattle.krb_logins.specs.Parties.{LoginRecord, RealmRecord, RememberedRecord}
-use Rattle.key_functions.specs.KeyFunctions.{KeysRecord}
-use Rattle.pkinit_trust.specs.Anchors.{AnchorRecord}
-use Rattle.pkinit_trust.specs.Expected.{ExpectedRecord}
-use Rattle.pkinit_requests.specs.AgreementBytes.{agreement_bytes}
-use Rattle.pkinit_requests.specs.Trust.{TrustRecord}
+use Rattle.x509_keys.specs.KeyFunctions.{KeysRecord}
+use Rattle.pkinit_validation.specs.Anchors.{AnchorRecord}
+use Rattle.pkinit_validation.specs.Expected.{ExpectedRecord}
+use Rattle.pkinit_validation.specs.AgreementBytes.{agreement_bytes}
+use Rattle.pkinit_validation.specs.Trust.{TrustRecord}
 use Rattle.krb_realm.specs.Agreements.{AreAgreeing, IsKeyInfoText, IsPackText, IsTrusted}
 
 -- the client, as an anchor of the realm has it at the realm's moment

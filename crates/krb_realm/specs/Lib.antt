@@ -6,3 +6,4 @@ pub mod Exchange
 pub mod ExchangeMeans
 pub mod Honest
 pub mod HonestByCertificate
+pub mod HonestByRsa

@@ -2,11 +2,11 @@
 use Rattle.std.specs.Prelude.{Result}
 use Rattle.picky_asn1.specs.Bytes.{Bytes}
 use Rattle.krb_accounts.specs.Accounts.{look_in}
-use Rattle.krb_kdc_requests.specs.Call.{CallRecord}
-use Rattle.krb_types.specs.TicketGranting.{krbtgt_of}
-use Rattle.pkinit_interface.specs.Rows.{PkinitRows}
-use Rattle.key_functions.specs.KeyFunctions.{KeysRecord}
-use Rattle.pkinit_requests.specs.PkinitRows.{pkinit_rows}
+use Rattle.krb_kdc_exchanges.specs.Call.{CallRecord}
+use Rattle.krb_messages.specs.TicketGranting.{krbtgt_of}
+use Rattle.krb_kdc_exchanges.specs.Rows.{PkinitRows}
+use Rattle.x509_keys.specs.KeyFunctions.{KeysRecord}
+use Rattle.pkinit_validation.specs.PkinitRows.{pkinit_rows}
 use Rattle.krb_client.specs.Asked.{AsAskedRecord, TgsAskedRecord}
 use Rattle.krb_client.specs.AsReply.{takes_as_reply}
 use Rattle.krb_client.specs.Client.{ClientRecord, CredentialRecord}
@@ -17,7 +17,7 @@ use Rattle.krb_logins.specs.Parties.{LoginRecord, RealmRecord}
 use Rattle.krb_logins.specs.Steps.{IsAnswered, IsAsAsked, IsTgsAsked}
 use Rattle.krb_logins.specs.declared.refusal.LoginRefusal.{LoginRefusal}
 use Rattle.krb_logins.specs.declared.refusal.LoginRefusal.TheVariants.{Answered, Asked, Taken}
-use Rattle.krb_ap_exchange.specs.ApExchanges.{IsStep, Made, sent_as}
+use Rattle.krb_logins.specs.ApExchanges.{IsStep, Made, sent_as}
 use Rattle.krb_memory_realms.specs.Realm.{RealmState}
 
 -- the client's AS request of a login and what it then remembers, or why the login ends there (RFC 4120, section 3.1.1)

@@ -1,25 +1,25 @@
 //! Whether a login by certificate is honest: the premise of its law, judged by what the parties hold.
 ghost use Rattle.std.specs.Prelude.{IsTrue};
-ghost use Rattle.krb_types.specs.RandomBytes.{AreEnoughForRequest};
+ghost use Rattle.krb_messages.specs.RandomBytes.{AreEnoughForRequest};
 ghost use Rattle.krb_logins.specs.Authenticated.{first_body};
 ghost use Rattle.krb_logins.specs.Input.{held_by, login_of, realm_of};
 ghost use Rattle.krb_logins.specs.Parties.{call_at};
-ghost use Rattle.krb_kdc_requests.specs.Call.{pkinit_call};
+ghost use Rattle.krb_kdc_exchanges.specs.Call.{pkinit_call};
 ghost use Rattle.krb_client.specs.Requests.{nonce_of};
 ghost use Rattle.krb_realm.specs.Exchange.{IsHonestExchange};
 ghost use Rattle.krb_realm.specs.ExchangeMeans.{asked_at};
 ghost use Rattle.krb_realm.specs.HonestByCertificate.{IsHonestByCertificate};
-ghost use Rattle.pkinit_requests.specs.Trust.{trust_of};
+ghost use Rattle.pkinit_validation.specs.Trust.{trust_of};
 
 use crate::exchange::Exchange;
-use key_functions::KeyFunctions;
 use krb_client::Client;
-use krb_kdc_requests::Call;
+use krb_kdc_exchanges::Call;
 use krb_logins::{LoginInput, granting_service, is_honest};
 use krb_service::Service;
 use pkinit_clients::ByCertificate;
-use pkinit_requests::RealmPkinit;
+use pkinit_validation::RealmPkinit;
 use std::alloc::Global;
+use x509_keys::KeyFunctions;
 
 /// Whether a login by certificate is honest: of this client with its certificate, at the realm that is called so, and at this service.
 /// The moments and the random bytes are the input's. What the service holds counts as what it admitted. If memory runs out, the answer

@@ -1,19 +1,19 @@
 //! What client and realm agree on where both are honest: each sign for the other, and their public keys give one secret; and what a
 //! login by certificate ends with. Each is a function that does nothing when it runs: its contract is the law.
 ghost use Rattle.std.specs.Prelude.{◌≡◌, ℕ, List, Ok, Result, pos};
-ghost use Rattle.pkinit_interface.specs.Calls.{AgreedRecord, PkinitCallRecord};
-ghost use Rattle.krb_kdc_requests.specs.Calls.{AreKeyed};
+ghost use Rattle.krb_kdc_exchanges.specs.PkinitCalls.{AgreedRecord, PkinitCallRecord};
+ghost use Rattle.krb_kdc_exchanges.specs.Calls.{AreKeyed};
 ghost use Rattle.krb_client.specs.Client.{ClientRecord};
 ghost use Rattle.krb_service.specs.Service.{ServiceRecord};
 ghost use Rattle.krb_logins.specs.Honest.{AreEnough, AreParties, IsGranting, IsOneKey};
 ghost use Rattle.krb_logins.specs.LoginRun.{Login, LoginRun};
 ghost use Rattle.krb_logins.specs.Parties.{LoginRecord, RealmRecord, RememberedRecord};
 ghost use Rattle.krb_logins.specs.declared.refusal.LoginRefusal.{LoginRefusal};
-ghost use Rattle.key_functions.specs.KeyFunctions.{KeysRecord};
-ghost use Rattle.pkinit_trust.specs.Anchors.{AnchorRecord};
-ghost use Rattle.pkinit_requests.specs.PkinitRows.{pkinit_rows};
-ghost use Rattle.pkinit_requests.specs.PkinitTable.{pkinit_table};
-ghost use Rattle.pkinit_requests.specs.Trust.{TrustRecord};
+ghost use Rattle.x509_keys.specs.KeyFunctions.{KeysRecord};
+ghost use Rattle.pkinit_validation.specs.Anchors.{AnchorRecord};
+ghost use Rattle.pkinit_validation.specs.PkinitRows.{pkinit_rows};
+ghost use Rattle.pkinit_validation.specs.PkinitTable.{pkinit_table};
+ghost use Rattle.pkinit_validation.specs.Trust.{TrustRecord};
 ghost use Rattle.pkinit_clients.specs.Asked.{PkinitAskedRecord};
 ghost use Rattle.pkinit_clients.specs.Faults.{Secret};
 ghost use Rattle.pkinit_clients.specs.Means.{by_certificate};

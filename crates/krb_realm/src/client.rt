@@ -1,6 +1,6 @@
 //! Clients.
 ghost use Rattle.std.specs.Prelude.{◌≡◌, ◌↔◌, ◌⊎◌, ℕ, List, true, false, Ok, Err, IfErr, IfOk, MatchResult};
-ghost use Rattle.krb_types.specs.RandomBytes.{AreEnoughForRequest};
+ghost use Rattle.krb_messages.specs.RandomBytes.{AreEnoughForRequest};
 ghost use Rattle.krb_accounts.specs.Names.{AreComponents, IsRealmName, are_components, parts};
 ghost use Rattle.krb_client.specs.Client.{client_of};
 ghost use Rattle.krb_client.specs.Refusals.{IsMemoryAside, IsTaken};
@@ -9,15 +9,15 @@ ghost use Rattle.krb_realm.specs.Clients.{IsNoClient};
 ghost use Rattle.krb_realm.specs.HeldClients.{client_by};
 
 use crate::client_means::{ClientMeans, Held};
-use key_functions::KeyFunctions;
 use krb_client::{ApAsked, AsAsked, AskRefusal, Credential, TakeRefusal, TgsAsked};
 use krb_crypto::CipherSuite;
 use krb_memory_realms::is_certificate;
 use krb_time::Moment;
 use picky_asn1::date::GeneralizedTime;
-use pkinit_trust::Anchor;
+use pkinit_validation::Anchor;
 use std::alloc::Global;
 use std::marker::Model;
+use x509_keys::KeyFunctions;
 
 /// A client: its realm, its name, the suite that it asks for, and a key or a certificate by which it authenticates itself. A contract
 /// sees these, the name as its components.

@@ -1,15 +1,15 @@
 //! How clients authenticate themselves.
 ghost use Rattle.std.specs.Prelude.{◌≡◌};
 
-use key_functions::KeyFunctions;
 use krb_client::{AsAsked, AskRefusal, ByKey, Client, Means, TakeRefusal};
 use krb_crypto::Key;
+use krb_messages::data_types::PaData;
 use krb_messages::messages::{KdcRep, KdcReqBody};
 use krb_time::Moment;
-use krb_types::data_types::PaData;
 use pkinit_clients::ByCertificate;
-use pkinit_trust::Anchor;
+use pkinit_validation::Anchor;
 use std::alloc::Global;
+use x509_keys::KeyFunctions;
 
 /// What a client authenticates itself by.
 #[derive(Drop)]

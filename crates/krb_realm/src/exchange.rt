@@ -1,11 +1,11 @@
 //! AS exchanges by certificate, judged by what client and realm make of each other's messages.
 ghost use Rattle.std.specs.Prelude.{◌≡◌, IfErr, IfOk, IsTrue, Ok, Some, length};
 ghost use Rattle.krb_time.specs.Skew.{IsWithinDay};
-ghost use Rattle.krb_types.specs.RandomBytes.{AreEnoughForRequest};
-ghost use Rattle.asn1_elements.specs.Raw.{Raw};
-ghost use Rattle.krb_kdc_requests.specs.Call.{call_of, pkinit_call};
-ghost use Rattle.pkinit_interface.specs.Calls.{AgreedRecord};
-ghost use Rattle.pkinit_interface.specs.Calls as calls;
+ghost use Rattle.krb_messages.specs.RandomBytes.{AreEnoughForRequest};
+ghost use Rattle.picky_asn1_der.specs.Raw.{Raw};
+ghost use Rattle.krb_kdc_exchanges.specs.Call.{call_of, pkinit_call};
+ghost use Rattle.krb_kdc_exchanges.specs.PkinitCalls.{AgreedRecord};
+ghost use Rattle.krb_kdc_exchanges.specs.PkinitCalls as calls;
 ghost use Rattle.krb_client.specs.Asked.{agreement_part};
 ghost use Rattle.pkinit_clients.specs.Asked.{asked_of};
 ghost use Rattle.pkinit_clients.specs.Means.{IsPkinitPadata};
@@ -13,23 +13,22 @@ ghost use Rattle.pkinit_clients.specs.Replies.{secret_of};
 ghost use Rattle.pkinit_clients.specs.Requests.{IsPkAsReqOf};
 ghost use Rattle.krb_realm.specs.Exchange.{IsHonestExchange};
 ghost use Rattle.krb_realm.specs.ExchangeMeans.{asked_at};
-ghost use Rattle.pkinit_requests.specs.PublicKeys.{IsPublicKey};
-ghost use Rattle.pkinit_requests.specs.declared.public_key.AgreementPublicKey.{AgreementPublicKey};
-ghost use Rattle.pkinit_requests.specs.PkinitTable.{pkinit_table};
-ghost use Rattle.pkinit_requests.specs.Trust.{trust_of};
+ghost use Rattle.pkinit_validation.specs.PublicKeys.{IsPublicKey};
+ghost use Rattle.pkinit_validation.specs.declared.public_key.AgreementPublicKey.{AgreementPublicKey};
+ghost use Rattle.pkinit_validation.specs.PkinitTable.{pkinit_table};
+ghost use Rattle.pkinit_validation.specs.Trust.{trust_of};
 
-use key_functions::KeyFunctions;
 use krb_client::{AsAsked, AskRefusal, Client, Means, TakeRefusal, agreement_part};
 use krb_crypto::Key;
-use krb_kdc_requests::Call;
+use krb_kdc_exchanges::{Call, Pkinit, PkinitCall};
+use krb_messages::data_types::PaData;
 use krb_messages::messages::{KdcRep, KdcReqBody};
 use krb_time::Moment;
-use krb_types::data_types::PaData;
 use picky_asn1_der::Asn1RawDer;
 use pkinit_clients::{ByCertificate, PkinitAsked, secret_of};
-use pkinit_interface::{Pkinit, PkinitCall};
-use pkinit_requests::{RealmPkinit, public_key_of};
+use pkinit_validation::{RealmPkinit, public_key_of};
 use std::alloc::Global;
+use x509_keys::KeyFunctions;
 
 /// A client's means by its certificate, which have padata only where the exchange with the realm is honest: the realm grants it, and
 /// the client takes the same secret from the reply.
@@ -44,8 +43,8 @@ pub(crate) struct Exchange<'a, C: KeyFunctions, R: KeyFunctions> {
 }
 
 impl<'a, C: KeyFunctions, R: KeyFunctions> Means for Exchange<'a, C, R> {
-    ghost use Rattle.krb_kdc_requests.specs.Call.{call_of};
-    ghost use Rattle.pkinit_requests.specs.Trust.{trust_of};
+    ghost use Rattle.krb_kdc_exchanges.specs.Call.{call_of};
+    ghost use Rattle.pkinit_validation.specs.Trust.{trust_of};
     ghost use Rattle.krb_realm.specs.ExchangeMeans.{exchange_means};
 
     ghost means = { λ x. exchange_means x.client.now x.own.now.certificate.now x.own.now.anchor.now (C.functions x.own.now.keys.now)

@@ -4,16 +4,16 @@ ghost use Rattle.krb_crypto.specs.Keys.{KeyRecord};
 ghost use Rattle.krb_logins.specs.Honest.{IsHonestByPassword};
 ghost use Rattle.krb_logins.specs.Input.{login_of};
 ghost use Rattle.krb_realm.specs.Clients.{ByKey};
-ghost use Rattle.krb_ap_exchange.specs.ApExchanges.{remembered};
+ghost use Rattle.krb_logins.specs.ApExchanges.{remembered};
 ghost use Rattle.krb_realm.specs.Logins.{realm_record};
 
 use crate::client::Client;
 use crate::client_means::Held;
-use key_functions::NoKeys;
 use krb_logins::{LoginInput, is_honest_by_key};
 use krb_memory_realms::Realm;
 use krb_service::Service;
 use std::alloc::Global;
+use x509_keys::NoKeys;
 
 /// Whether a login by password is honest, as [`login_by_password`] asks for one key on both sides. The pairs of client and time that
 /// the service holds count as all that it admitted. If memory runs out, the answer is false.

@@ -1,22 +1,22 @@
 //! Whether a login by certificate is honest.
 ghost use Rattle.std.specs.Prelude.{◌≡◌, IsTrue};
-ghost use Rattle.krb_types.specs.RandomBytes.{AreEnoughForRequest};
+ghost use Rattle.krb_messages.specs.RandomBytes.{AreEnoughForRequest};
 ghost use Rattle.picky_asn1.specs.Bytes.{Bytes};
 ghost use Rattle.krb_logins.specs.Input.{login_of};
 ghost use Rattle.krb_realm.specs.Clients.{ByCertificate};
-ghost use Rattle.krb_ap_exchange.specs.ApExchanges.{remembered};
+ghost use Rattle.krb_logins.specs.ApExchanges.{remembered};
 ghost use Rattle.krb_realm.specs.Logins.{realm_record};
 ghost use Rattle.krb_realm.specs.HonestByCertificate.{IsHonestByCertificate};
-ghost use Rattle.pkinit_trust.specs.Anchors.{AnchorRecord};
+ghost use Rattle.pkinit_validation.specs.Anchors.{AnchorRecord};
 
 use crate::certified_honesty::is_certified_login_honest;
 use crate::client::Client;
 use crate::client_means::{Held, by_certificate};
-use key_functions::KeyFunctions;
 use krb_logins::LoginInput;
 use krb_memory_realms::Realm;
 use krb_service::Service;
 use std::alloc::Global;
+use x509_keys::KeyFunctions;
 
 /// Whether a login by the client's certificate is honest, as [`login_by_certificate`] asks for one key on both sides. The pairs of
 /// client and time that the service holds count as all that it admitted. If memory runs out, the answer is false.

@@ -7,11 +7,10 @@ ghost use Rattle.krb_logins.specs.Parties.{LoginRecord, RealmRecord, RememberedR
 ghost use Rattle.krb_logins.specs.declared.refusal.LoginRefusal.{LoginRefusal};
 ghost use Rattle.krb_realm.specs.Clients.{means_of};
 ghost use Rattle.krb_service.specs.Service.{ServiceRecord};
-ghost use Rattle.pkinit_requests.specs.PkinitRows.{pkinit_rows};
+ghost use Rattle.pkinit_validation.specs.PkinitRows.{pkinit_rows};
 
 pub use crate::certified_laws::{agreement_granted, agreement_taken, one_key_by_certificate};
 use crate::client::Client;
-use key_functions::KeyFunctions;
 pub use krb_crypto::laws::has_sealed;
 pub use krb_logins::laws::ap_request_presents_choice;
 use krb_memory_realms::Settings;
@@ -27,6 +26,7 @@ pub use krb_service::laws::{
     once_for_ever, one_outcome, refused_by_moment_alone,
 };
 pub use pkinit_clients::laws::reply_verified_is_part;
+use x509_keys::KeyFunctions;
 
 /// A login of this client at a realm with these settings, with their key functions, has one outcome: what it answers, and what the
 /// service remembers after it. The only exception is running out of memory. It does nothing when it runs: its contract is the law.

@@ -15,6 +15,8 @@
 //! `agreement_taken`). An honest login by certificate ends with one session key, or memory runs out (law `one_key_by_certificate`).
 //! `IsHonestByCertificate` requires of the key functions that, in this login, each party accepts the other's certificate and
 //! signature, and both come to one secret.
+//! [`one_key_by_rsa`] is this law for the key functions of `rsa_keys`. Its premises speak of certificates, names and clocks, and of
+//! signatures and public values that are made. That signatures verify, and that both come to one secret, is no premise there.
 #![tactic(auto)]
 
 mod certified_honesty;
@@ -26,12 +28,12 @@ mod honest;
 mod honest_by_certificate;
 pub mod laws;
 mod login;
+mod rsa_laws;
 
 pub use byte_streams::{Sink, SinkFault, Source};
 pub use client::Client;
 pub use honest::is_honest_by_password;
 pub use honest_by_certificate::is_honest_by_certificate;
-pub use key_functions::{KeyFunctions, NoKeys, SignatureAlgorithm, Signed, Theirs};
 pub use krb_accounts::RealmRefusal;
 pub use krb_ap_requests::AdmitRefusal;
 pub use krb_client::{ApAsked, AsAsked, AskRefusal, Credential, TakeRefusal, TgsAsked};
@@ -39,11 +41,13 @@ pub use krb_crypto::{ChecksumSuite, CipherSuite, Key};
 pub use krb_frames::{AnswerRefusal, Responder, ServeFault, SoleResponder};
 pub use krb_logins::{LoginInput, LoginMoments, LoginRefusal};
 pub use krb_memory_realms::{Answering, Realm, Settings, serve, serve_bytes, words_needed};
+pub use krb_messages::data_types::{EncryptionKey, PrincipalName, Ticket};
+pub use krb_messages::{NameTextFault, PrincipalText, components_of_text, principal_of_text};
 pub use krb_service::{Admission, Service};
 pub use krb_time::Moment;
-pub use krb_types::data_types::{EncryptionKey, PrincipalName, Ticket};
-pub use krb_types::{NameTextFault, PrincipalText, components_of_text, principal_of_text};
 pub use login::{login_by_certificate, login_by_password};
 pub use picky_asn1::date::GeneralizedTime;
 pub use picky_asn1::wrapper::{GeneralStringAsn1, OctetStringAsn1};
-pub use pkinit_trust::Anchor;
+pub use pkinit_validation::Anchor;
+pub use rsa_laws::one_key_by_rsa;
+pub use x509_keys::{KeyFunctions, NoKeys, SignatureAlgorithm, Signed, Theirs};

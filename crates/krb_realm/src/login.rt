@@ -1,6 +1,6 @@
 //! Whole logins.
 ghost use Rattle.std.specs.Prelude.{◌≡◌, List, Result};
-ghost use Rattle.krb_types.specs.RandomBytes.{AreEnoughForReply, AreEnoughForRequest};
+ghost use Rattle.krb_messages.specs.RandomBytes.{AreEnoughForReply, AreEnoughForRequest};
 ghost use Rattle.picky_asn1.specs.Bytes.{Bytes};
 ghost use Rattle.krb_logins.specs.Input.{login_of};
 ghost use Rattle.krb_logins.specs.Honest.{AreEnough, IsHonestByPassword, IsOneKey};
@@ -8,26 +8,25 @@ ghost use Rattle.krb_logins.specs.LoginRun.{AsExchange, Exchanges, Login, LoginR
 ghost use Rattle.krb_logins.specs.Parties.{RememberedRecord, call_at};
 ghost use Rattle.krb_service.specs.Pair.{PairRecord};
 ghost use Rattle.krb_service.specs.Seen.{IsWindow};
-ghost use Rattle.krb_ap_exchange.specs.ApExchanges.{Remembers, remembered};
+ghost use Rattle.krb_logins.specs.ApExchanges.{Remembers, remembered};
 ghost use Rattle.krb_realm.specs.Logins.{Answer, AsAsk, AsTake, TgsAsk, TgsTake, realm_record, realm_rows};
 ghost use Rattle.krb_realm.specs.Clients.{ByCertificate, ByKey, means_of};
-ghost use Rattle.key_functions.specs.KeyFunctions.{no_functions};
+ghost use Rattle.x509_keys.specs.KeyFunctions.{no_functions};
 ghost use Rattle.krb_crypto.specs.Keys.{KeyRecord};
 ghost use Rattle.krb_realm.specs.HonestByCertificate.{IsHonestByCertificate};
-ghost use Rattle.pkinit_trust.specs.Anchors.{AnchorRecord};
+ghost use Rattle.pkinit_validation.specs.Anchors.{AnchorRecord};
 
 use crate::certified_laws::one_key_by_certificate;
 use crate::client::Client;
-use key_functions::{KeyFunctions, NoKeys};
-use krb_ap_exchange::ap_exchange;
 use krb_client::{AsAsked, AskRefusal, Credential, Means, TgsAsked};
 use krb_logins::laws::one_key_by_password;
-use krb_logins::{LoginInput, LoginRefusal, granting_service};
+use krb_logins::{LoginInput, LoginRefusal, ap_exchange, granting_service};
 use krb_memory_realms::Realm;
+use krb_messages::data_types::EncryptionKey;
 use krb_service::{Admission, Service};
 use krb_time::Moment;
-use krb_types::data_types::EncryptionKey;
 use std::alloc::Global;
+use x509_keys::{KeyFunctions, NoKeys};
 
 /// Logs a client in at a service by its password (RFC 4120, sections 3.1, 3.3, 3.2). The realm has no key functions.
 ///

@@ -1,6 +1,6 @@
 -- No pair of client and time is admitted twice over a list of calls, and a refused call leaves the pairs.
 use Rattle.std.proofs.Common.{◌≡◌, ℕ, ◌+◌, suc, List, [], ◌∷◌, length, max, Result, Ok, Err, inl, inr, refl, sym, ap, subst, arith}
-use Rattle.krb_types.specs.Refusals.{Code}
+use Rattle.krb_messages.specs.Refusals.{Code}
 use Rattle.krb_service.specs.Pair.{PairRecord}
 use Rattle.krb_service.specs.Admission.{AdmissionRecord}
 use Rattle.krb_ap_requests.specs.declared.refusal.AdmitRefusal.{AdmitRefusal}

@@ -5,21 +5,21 @@ use Rattle.std.proofs.lemmas.Bool.{cases_lt}
 use Rattle.std.proofs.lemmas.List.{length-take-le}
 use Rattle.asn1_der.specs.Tree.{der}
 use Rattle.asn1_leaves.specs.GeneralizedTime.{seconds_of}
-use Rattle.aes_cts.specs.Bytes.{IsBytes}
-use Rattle.aes_cts.proofs.States.{IsBytes-take}
+use Rattle.block_ciphers.specs.Bytes.{IsBytes}
+use Rattle.block_ciphers.proofs.States.{IsBytes-take}
 use Rattle.krb_crypto.specs.Suites.{cipher_confounder_size, cipher_key_size}
 use Rattle.krb_crypto.specs.declared.suite.CipherSuite.{CipherSuite}
 use Rattle.krb_crypto.proofs.AllSuites.{confounder_below}
 use Rattle.krb_crypto.proofs.SealedTexts.{has_sealed}
-use Rattle.krb_types.specs.declared.data_types.authenticator.AuthenticatorInner.{AuthenticatorInner}
+use Rattle.krb_messages.specs.declared.data_types.authenticator.AuthenticatorInner.{AuthenticatorInner}
 use Rattle.krb_time.specs.Times.{moment_at}
 use Rattle.krb_ap_requests.specs.Acceptable.{IsAcceptable, presented_of}
-use Rattle.krb_encrypted_data.specs.Sealing.{encrypted_by}
+use Rattle.krb_tickets.specs.Sealing.{encrypted_by}
 use Rattle.krb_service.specs.ApReply.{IsReply, IsReplyTo, ap_rep_of, ap_rep_part}
 use Rattle.krb_ap_requests.specs.Entry.{EntryRecord}
 use Rattle.krb_messages.specs.Messages.{enc_ap_rep_part_tree, ap_rep_tree}
 use Rattle.krb_ap_requests.specs.Presents.{Choice}
-use Rattle.krb_encrypted_data.proofs.KeySizes.{suite_sized}
+use Rattle.krb_tickets.proofs.KeySizes.{suite_sized}
 use Rattle.krb_service.proofs.Short.{part_bytes}
 
 -- the microseconds of a time are part of a second

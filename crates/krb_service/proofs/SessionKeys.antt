@@ -3,7 +3,7 @@ use Rattle.std.proofs.Common.{◌≡◌, ℕ, List, Option, Some, Ok, ap, sym, s
 use Rattle.std.specs.Option.{option_map}
 use Rattle.krb_crypto.specs.Keys.{KeyRecord}
 use Rattle.krb_crypto.specs.declared.suite.CipherSuite.{CipherSuite}
-use Rattle.krb_encrypted_data.specs.Keys.{key_in}
+use Rattle.krb_tickets.specs.Keys.{key_in}
 use Rattle.krb_service.specs.ApReply.{HasSessionKey}
 use Rattle.krb_ap_requests.specs.Entry.{EntryRecord}
 use Rattle.krb_ap_requests.specs.Received.{Receives}

@@ -10,9 +10,9 @@ use Rattle.asn1_leaves.specs.declared.date.GeneralizedTime.{GeneralizedTime}
 use Rattle.asn1_leaves.specs.Calendar.{days_in_month, two_digits}
 use Rattle.asn1_leaves.specs.GeneralizedTime.{time_text}
 use Rattle.picky_asn1.specs.Integer.{integer_content, natural_octets}
-use Rattle.aes_cts.specs.Bytes.{IsBytes}
-use Rattle.aes_cts.proofs.States.{IsBytes-append, IsBytes-none}
-use Rattle.krb_types.specs.declared.data_types.authenticator.AuthenticatorInner.{AuthenticatorInner}
+use Rattle.block_ciphers.specs.Bytes.{IsBytes}
+use Rattle.block_ciphers.proofs.States.{IsBytes-append, IsBytes-none}
+use Rattle.krb_messages.specs.declared.data_types.authenticator.AuthenticatorInner.{AuthenticatorInner}
 use Rattle.krb_service.specs.ApReply.{ap_rep_part}
 use Rattle.krb_messages.specs.Messages.{enc_ap_rep_part_tree}
 

@@ -9,14 +9,14 @@ use Rattle.krb_constants.specs.declared.types.TheConstants.{AP_REP_MSG_TYPE, KER
 use Rattle.krb_crypto.specs.Sealing.{seed_key_of}
 use Rattle.krb_crypto.specs.Suites.{cipher_confounder_size, cipher_seed_size}
 use Rattle.krb_crypto.specs.declared.suite.CipherSuite.{CipherSuite}
-use Rattle.krb_types.specs.declared.data_types.authenticator.AuthenticatorInner.{AuthenticatorInner}
-use Rattle.krb_types.specs.declared.data_types.enc_ap_rep_part.EncApRepPartInner.{EncApRepPartInner}
-use Rattle.krb_types.specs.declared.data_types.encrypted_data.EncryptedData.{EncryptedData}
+use Rattle.krb_messages.specs.declared.data_types.authenticator.AuthenticatorInner.{AuthenticatorInner}
+use Rattle.krb_messages.specs.declared.data_types.enc_ap_rep_part.EncApRepPartInner.{EncApRepPartInner}
+use Rattle.krb_messages.specs.declared.data_types.encrypted_data.EncryptedData.{EncryptedData}
 use Rattle.krb_messages.specs.declared.messages.ap_rep.ApRepInner.{ApRepInner}
-use Rattle.krb_encrypted_data.specs.Keys.{suite_of}
+use Rattle.krb_tickets.specs.Keys.{suite_of}
 use Rattle.decision_tables.specs.One.{IsSole}
-use Rattle.krb_encrypted_data.specs.Sealing.{Seals, encryption_key, sole_seals}
-use Rattle.krb_types.specs.RandomBytes.{Random, ap_reply_confounder, nonce_bytes, subkey_seed}
+use Rattle.krb_tickets.specs.Sealing.{Seals, encryption_key, sole_seals}
+use Rattle.krb_messages.specs.RandomBytes.{Random, ap_reply_confounder, nonce_bytes, subkey_seed}
 use Rattle.krb_messages.specs.Messages.{ap_rep_tree, enc_ap_rep_part_tree}
 use Rattle.krb_ap_requests.specs.declared.presented.Presented.{Presented}
 use Rattle.krb_service.specs.declared.reply.ReplyFields.{ReplyFields}

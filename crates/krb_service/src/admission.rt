@@ -1,7 +1,7 @@
 //! What a service gets of a client that it admits.
 ghost use Rattle.std.specs.Prelude.{◌≡◌, ◌≤◌, false, length, IfOk};
 ghost use Rattle.std.specs.Option.{option_map};
-ghost use Rattle.krb_types.specs.RandomBytes.{AreEnoughForApReply};
+ghost use Rattle.krb_messages.specs.RandomBytes.{AreEnoughForApReply};
 ghost use Rattle.krb_ap_requests.specs.ApTable.{starttime_of};
 ghost use Rattle.krb_service.specs.Admission.{admission_of, checksum_of, seq_number_of, subkey_of};
 ghost use Rattle.krb_service.specs.ApReply.{HasSessionKey, IsReplyTo, IsReplyWith, random_size};
@@ -9,11 +9,11 @@ ghost use Rattle.krb_service.specs.ApReply.{HasSessionKey, IsReplyTo, IsReplyWit
 use crate::reply::{ReplyFields, ap_reply};
 use krb_ap_requests::{Presented, starttime_of};
 use krb_crypto::Key;
-use krb_encrypted_data::key_of;
-use krb_types::data_types::{
+use krb_messages::data_types::{
     AuthenticatorInner, Checksum, EncTicketPartInner, EncryptionKey, KerberosFlags, PrincipalName,
     Realm,
 };
+use krb_tickets::key_of;
 use picky_asn1::date::GeneralizedTime;
 use picky_asn1::wrapper::IntegerAsn1;
 use picky_asn1_der::ExplicitContextTag;

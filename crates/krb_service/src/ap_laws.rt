@@ -1,6 +1,6 @@
 //! What holds of every AP request.
 ghost use Rattle.std.specs.Prelude.{◌≡◌, ℕ, List, Ok, Option};
-ghost use Rattle.krb_types.specs.RandomBytes.{AreEnoughForApReply};
+ghost use Rattle.krb_messages.specs.RandomBytes.{AreEnoughForApReply};
 ghost use Rattle.krb_ap_requests.specs.Acceptable.{IsAcceptable, presented_choice};
 ghost use Rattle.krb_service.specs.ApReply.{IsReplyTo};
 ghost use Rattle.krb_ap_requests.specs.ApTable.{presented};
@@ -9,7 +9,7 @@ ghost use Rattle.krb_ap_requests.specs.Fitting.{IsFitting};
 ghost use Rattle.krb_ap_requests.specs.Presents.{Choice, Presents};
 ghost use Rattle.krb_ap_requests.specs.Received.{Receives};
 ghost use Rattle.krb_ap_requests.specs.declared.presented.Presented.{Presented};
-ghost use Rattle.aes_cts.specs.Bytes.{IsBytes};
+ghost use Rattle.block_ciphers.specs.Bytes.{IsBytes};
 ghost use Rattle.decision_tables.specs.Some.{HasSome};
 ghost use Rattle.krb_messages.specs.declared.messages.ap_req.ApReqInner.{ApReqInner};
 

@@ -4,16 +4,16 @@ ghost use Rattle.krb_time.specs.Skew.{IsWithinDay};
 ghost use Rattle.krb_service.specs.ApReply.{HasSessionKey};
 ghost use Rattle.krb_ap_requests.specs.ApTable.{presented};
 ghost use Rattle.krb_ap_requests.specs.Received.{Receives};
-ghost use Rattle.krb_types.specs.Refusals.{IsJudged};
+ghost use Rattle.krb_messages.specs.Refusals.{IsJudged};
 
 use krb_ap_requests::{
     AdmitRefusal, Presented, check_presented, check_recipient, check_ticket, enc_part_in,
     read_ap_req,
 };
 use krb_crypto::Key;
+use krb_messages::Refusal;
 use krb_messages::messages::ApReqInner;
 use krb_time::Moment;
-use krb_types::Refusal;
 use picky_asn1::wrapper::GeneralStringAsn1;
 use std::alloc::Global;
 use std::marker::Model;

@@ -2,23 +2,23 @@
 ghost use Rattle.std.specs.Prelude.{◌≡◌, ◌≤◌, ℕ, List, length, IfOk, pos};
 ghost use Rattle.asn1_der.specs.Tree.{der};
 ghost use Rattle.krb_crypto.specs.Suites.{cipher_confounder_size};
-ghost use Rattle.krb_encrypted_data.specs.Sealing.{encryption_key};
+ghost use Rattle.krb_tickets.specs.Sealing.{encryption_key};
 ghost use Rattle.krb_service.specs.ApReply.{IsReplyOf, ap_rep_of, ap_rep_part_with, random_size, reply_number, reply_subkey};
-ghost use Rattle.krb_types.specs.RandomBytes.{ap_reply_confounder, AreEnoughForSubkey};
+ghost use Rattle.krb_messages.specs.RandomBytes.{ap_reply_confounder, AreEnoughForSubkey};
 ghost use Rattle.krb_messages.specs.Messages.{ap_rep_tree, enc_ap_rep_part_tree};
 
+use decision_tables::both;
 use krb_constants::key_usages;
 use krb_constants::types::{AP_REP_MSG_TYPE, KERBEROS_VERSION};
 use krb_crypto::{CipherSuite, Key};
-use krb_encrypted_data::{confounder_at, encryption_key, key_at, sealed_data};
-use krb_messages::messages::{ApRep, ApRepInner};
-use krb_types::data_types::{
+use krb_messages::data_types::{
     AuthenticatorInner, EncApRepPart, EncApRepPartInner, EncryptedData, EncryptionKey,
 };
-use krb_types::random_bytes::{AP_REPLY_CONFOUNDER, NONCE, SUBKEY_SEED};
+use krb_messages::messages::{ApRep, ApRepInner};
+use krb_messages::random_bytes::{AP_REPLY_CONFOUNDER, NONCE, SUBKEY_SEED};
+use krb_tickets::{confounder_at, encryption_key, key_at, sealed_data};
 use picky_asn1::wrapper::{IntegerAsn1, OctetStringAsn1};
 use picky_asn1_der::{ApplicationTag, ExplicitContextTag, Optional, encoding_of};
-use result_pairs::both;
 use std::alloc::{AllocError, Global};
 
 /// How many numbers have 31 bits.

@@ -2,7 +2,7 @@
 ghost use Rattle.std.specs.Prelude.{◌≡◌, ◌≤◌, ◌⊎◌, List, length, Ok, Err, MatchResult, max};
 ghost use Rattle.std.specs.List.{filter};
 ghost use Rattle.std.specs.Set.{distinct_count};
-ghost use Rattle.krb_types.specs.RandomBytes.{AreEnoughForApReply};
+ghost use Rattle.krb_messages.specs.RandomBytes.{AreEnoughForApReply};
 ghost use Rattle.krb_accounts.specs.Names.{parts};
 ghost use Rattle.krb_service.specs.Pair.{PairRecord, is_recent, is_same_pair};
 ghost use Rattle.krb_service.specs.Seen.{IsWindow};

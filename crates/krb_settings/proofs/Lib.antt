@@ -1,3 +1,6 @@
 pub mod Files
 pub mod Lists
 pub mod Tables
+pub mod Collected
+pub mod Items
+pub mod Mapped

@@ -4,3 +4,6 @@ pub mod Files
 pub mod Realms
 pub mod Steps
 pub mod Written
+pub mod Messages
+pub mod Warnings
+pub mod WeakKeys

@@ -4,7 +4,7 @@ use Rattle.std.specs.Prelude.{IfErr}
 use Rattle.krb_time.specs.Units.{Micros}
 use Rattle.krb_frames.specs.declared.fault.ServeFault.{ServeFault}
 use Rattle.krb_frames.specs.declared.fault.ServeFault.TheVariants as serve_fault
-use Rattle.key_functions.specs.KeyFunctions.{no_functions}
+use Rattle.x509_keys.specs.KeyFunctions.{no_functions}
 use Rattle.krb_kdc.specs.Begins.{BeginsRequest}
 use Rattle.krb_memory_realms.specs.Answers.{RealmReplies}
 use Rattle.krb_memory_realms.specs.Realm.{RealmState}

@@ -9,8 +9,10 @@ ghost use Rattle.krb_settings_kdc.specs.Realms.{realm_of_settings};
 use crate::fault::RealmFault;
 use crate::realm::realm_of_settings;
 use krb_accounts::RealmRefusal;
-use krb_settings::{RealmSettings, SettingsFault, read_settings_file};
-use krb_settings_check::{Place, Remark, Rule, explain, explain_rule, warnings_of};
+use krb_settings::{
+    Place, RealmSettings, Remark, Rule, SettingsFault, explain, explain_rule, read_settings_file,
+    warnings_of,
+};
 use std::alloc::{AllocError, Global};
 
 /// What is said of a settings file.

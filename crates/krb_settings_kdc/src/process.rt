@@ -4,7 +4,6 @@ use crate::PROGRAM;
 use crate::console::run_with_arguments;
 use crate::stop::Stop;
 use byte_streams::{Sink, Source, Watched};
-use key_functions::NoKeys;
 use krb_accounts::{USUAL_LIFETIME, USUAL_SKEW};
 use krb_crypto::CipherSuite;
 use krb_frames::ServeFault;
@@ -14,6 +13,7 @@ use krb_time::Moment;
 use std::alloc::Global;
 use std::io;
 use std::process::ExitCode;
+use x509_keys::NoKeys;
 
 /// The moment of the stored run.
 const MOMENT: &[u8; 15] = b"20000101000000Z";

@@ -6,11 +6,11 @@ ghost use Rattle.krb_settings_kdc.specs.Runs.{IsEnd};
 use crate::realm::realm_of_file;
 use crate::stop::Stop;
 use byte_streams::{Sink, Source};
-use key_functions::NoKeys;
 use krb_memory_realms::Answering;
 use krb_programs::serve_at;
 use krb_time::Moment;
 use std::alloc::Global;
+use x509_keys::NoKeys;
 
 /// Answers the frames of `reader` on `writer` for the realm of a settings file, each at one moment and with the next 128
 /// random bytes of `words_reader`. The realm has no key functions. It gives how many frames were answered.

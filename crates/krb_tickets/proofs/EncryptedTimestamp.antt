@@ -3,13 +3,13 @@ use Rattle.std.proofs.Common.{ℕ, List, Option, None, Some, Result, Ok, Err, sy
 use Rattle.std.specs.Prelude.{IfOk}
 use Rattle.asn1_der.specs.Tree.{Writes}
 use Rattle.krb_accounts.specs.Account.{AccountRecord}
-use Rattle.krb_types.specs.declared.data_types.encrypted_data.EncryptedData.{EncryptedData}
-use Rattle.krb_types.specs.declared.data_types.pa_enc_timestamp.PaEncTsEnc.{PaEncTsEnc}
-use Rattle.krb_types.specs.Trees as held
+use Rattle.krb_messages.specs.declared.data_types.encrypted_data.EncryptedData.{EncryptedData}
+use Rattle.krb_messages.specs.declared.data_types.pa_enc_timestamp.PaEncTsEnc.{PaEncTsEnc}
+use Rattle.krb_messages.specs.Trees as held
 use Rattle.picky_asn1_der.specs.Found.{IsFound}
-use Rattle.krb_encrypted_data.specs.Sealed.{IsSealedIn}
+use Rattle.krb_tickets.specs.SealedData.{IsSealedIn}
 use Rattle.krb_tickets.specs.EncryptedTimestamps.{IsEncryptedTimestamp, timestamp_tree}
-use Rattle.krb_types.specs.Trees.{encrypted_data_tree}
+use Rattle.krb_messages.specs.Trees.{encrypted_data_tree}
 
 timestamp_found : (account : AccountRecord) (bytes : List ℕ) (sealed : EncryptedData) (found : Option PaEncTsEnc)
     → Writes encrypted_data_tree sealed bytes → IsFound (IsSealedIn {T = PaEncTsEnc} timestamp_tree account.suite account.key 1 sealed) found

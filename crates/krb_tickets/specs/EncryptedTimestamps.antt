@@ -8,10 +8,10 @@ use Rattle.picky_asn1.specs.Bytes.{Bytes}
 use Rattle.krb_accounts.specs.Account.{AccountRecord}
 use Rattle.krb_constants.specs.KeyUsages.{key_usage}
 use Rattle.krb_constants.specs.declared.key_usages.TheConstants.{AS_REQ_TIMESTAMP}
-use Rattle.krb_types.specs.declared.data_types.encrypted_data.EncryptedData.{EncryptedData}
-use Rattle.krb_types.specs.declared.data_types.pa_enc_timestamp.PaEncTsEnc.{PaEncTsEnc}
-use Rattle.krb_types.specs.Trees as held
-use Rattle.krb_encrypted_data.specs.Sealed.{IsSealedIn, sole_sealed}
+use Rattle.krb_messages.specs.declared.data_types.encrypted_data.EncryptedData.{EncryptedData}
+use Rattle.krb_messages.specs.declared.data_types.pa_enc_timestamp.PaEncTsEnc.{PaEncTsEnc}
+use Rattle.krb_messages.specs.Trees as held
+use Rattle.krb_tickets.specs.SealedData.{IsSealedIn, sole_sealed}
 use Rattle.krb_time.specs.Times.{moment_at}
 use Rattle.krb_time.specs.Units.{Micros}
 

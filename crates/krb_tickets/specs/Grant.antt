@@ -3,7 +3,7 @@ use Rattle.std.specs.Prelude.{ℤ}
 use Rattle.asn1_leaves.specs.declared.date.GeneralizedTime.{GeneralizedTime}
 use Rattle.picky_asn1.specs.Bytes.{Bytes}
 use Rattle.krb_crypto.specs.declared.suite.CipherSuite.{CipherSuite}
-use Rattle.krb_types.specs.declared.data_types.principal_name.PrincipalName.{PrincipalName}
+use Rattle.krb_messages.specs.declared.data_types.principal_name.PrincipalName.{PrincipalName}
 use Rattle.krb_tickets.specs.declared.grant.Grant as held
 use Rattle.krb_tickets.specs.declared.grant.TicketFlags.{TicketFlags}
 

@@ -6,8 +6,8 @@ use Rattle.krb_crypto.specs.Suites.{cipher_confounder_size}
 use Rattle.krb_accounts.specs.Account.{AccountRecord}
 use Rattle.krb_constants.specs.KeyUsages.{key_usage}
 use Rattle.krb_constants.specs.declared.key_usages.TheConstants.{TICKET_REP}
-use Rattle.krb_types.specs.declared.data_types.encrypted_data.EncryptedData.{EncryptedData}
-use Rattle.krb_types.specs.RandomBytes.{Random, reply_confounder, ticket_confounder}
+use Rattle.krb_messages.specs.declared.data_types.encrypted_data.EncryptedData.{EncryptedData}
+use Rattle.krb_messages.specs.RandomBytes.{Random, reply_confounder, ticket_confounder}
 use Rattle.krb_tickets.specs.Grant.{GrantRecord}
 use Rattle.krb_tickets.specs.Parts.{kdc_reply_of, reply_part, ticket_of, ticket_part}
 use Rattle.krb_tickets.specs.Sealed.{IsSealedData, IsSealedReply, kdc_reply_bytes, reply_part_bytes, sole_sealed_data, sole_sealed_reply, ticket_part_bytes}

@@ -11,9 +11,9 @@ use Rattle.krb_crypto.specs.declared.suite.CipherSuite.TheVariants.{Aes256CtsHma
 use Rattle.krb_crypto.specs.Suites.{cipher_number}
 use Rattle.krb_accounts.specs.Account.{AccountRecord}
 use Rattle.krb_constants.specs.declared.padata_types.TheConstants.{PA_ENC_TIMESTAMP, PA_ETYPE_INFO2, PA_PK_AS_REQ}
-use Rattle.krb_types.specs.declared.data_types.etype_info2.EtypeInfo2Entry.{EtypeInfo2Entry}
-use Rattle.krb_types.specs.declared.data_types.pa_data.PaData.{PaData}
-use Rattle.krb_types.specs.Trees as held
+use Rattle.krb_messages.specs.declared.data_types.etype_info2.EtypeInfo2Entry.{EtypeInfo2Entry}
+use Rattle.krb_messages.specs.declared.data_types.pa_data.PaData.{PaData}
+use Rattle.krb_messages.specs.Trees as held
 use Rattle.asn1_der.specs.Octets.{sequence_octet}
 
 -- PA-ETYPE-INFO2 has one entry: the etype of the client's key, its salt if there is one, and no s2kparams (RFC 4120, section 5.2.7.5).

@@ -10,17 +10,17 @@ use Rattle.krb_crypto.specs.Suites.{cipher_seed_size}
 use Rattle.krb_constants.specs.declared.padata_types.TheConstants.{PA_PK_AS_REP}
 use Rattle.krb_constants.specs.declared.ticket_flags.TheConstants.{INITIAL_MASK, PRE_AUTHENT_MASK}
 use Rattle.krb_constants.specs.declared.types.TheConstants.{AS_REP_MSG_TYPE, KERBEROS_VERSION, TGS_REP_MSG_TYPE}
-use Rattle.krb_types.specs.declared.data_types.encrypted_data.EncryptedData.{EncryptedData}
-use Rattle.krb_types.specs.declared.data_types.enc_ticket_part.EncTicketPartInner.{EncTicketPartInner}
-use Rattle.krb_types.specs.declared.data_types.last_req.LastReqInner.{LastReqInner}
-use Rattle.krb_types.specs.declared.data_types.ticket.TicketInner.{TicketInner}
-use Rattle.krb_types.specs.declared.data_types.transited_encoding.TransitedEncoding.{TransitedEncoding}
-use Rattle.krb_types.specs.RandomBytes.{Random, session_seed}
+use Rattle.krb_messages.specs.declared.data_types.encrypted_data.EncryptedData.{EncryptedData}
+use Rattle.krb_messages.specs.declared.data_types.enc_ticket_part.EncTicketPartInner.{EncTicketPartInner}
+use Rattle.krb_messages.specs.declared.data_types.last_req.LastReqInner.{LastReqInner}
+use Rattle.krb_messages.specs.declared.data_types.ticket.TicketInner.{TicketInner}
+use Rattle.krb_messages.specs.declared.data_types.transited_encoding.TransitedEncoding.{TransitedEncoding}
+use Rattle.krb_messages.specs.RandomBytes.{Random, session_seed}
 use Rattle.krb_messages.specs.declared.messages.kdc_rep.KdcRep.{KdcRep}
 use Rattle.krb_messages.specs.declared.messages.enc_kdc_rep_part.EncKdcRepPart.{EncKdcRepPart}
-use Rattle.krb_encrypted_data.specs.Sealing.{encryption_key}
+use Rattle.krb_tickets.specs.Sealing.{encryption_key}
 use Rattle.picky_asn1_der.specs.declared.wrapper.ExplicitContextTag.{ExplicitContextTag}
-use Rattle.krb_types.specs.declared.data_types.pa_data.PaData.{PaData}
+use Rattle.krb_messages.specs.declared.data_types.pa_data.PaData.{PaData}
 use Rattle.krb_tickets.specs.MethodData.{pa_data_of}
 use Rattle.krb_tickets.specs.Grant.{GrantRecord}
 use Rattle.krb_tickets.specs.declared.grant.TicketFlags.{TicketFlags}

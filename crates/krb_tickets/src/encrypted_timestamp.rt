@@ -3,11 +3,11 @@ ghost use Rattle.std.specs.Prelude.{◌≡◌, IfOk};
 ghost use Rattle.picky_asn1_der.specs.Found.{IsFound};
 ghost use Rattle.krb_tickets.specs.EncryptedTimestamps.{IsEncryptedTimestamp, moment_of};
 
+use crate::open_sealed;
 use krb_accounts::Account;
 use krb_constants::key_usages;
-use krb_encrypted_data::open_sealed;
+use krb_messages::data_types::{EncryptedData, PaEncTsEnc};
 use krb_time::{Moment, moment_at};
-use krb_types::data_types::{EncryptedData, PaEncTsEnc};
 use picky_asn1_der::read_whole;
 use std::alloc::{AllocError, Global};
 

@@ -1,16 +1,16 @@
 //! Granting a ticket, in an AS or a TGS exchange (RFC 4120, sections 3.1.3, 3.3.3).
 
 ghost use Rattle.std.specs.Prelude.{IfOk};
-ghost use Rattle.krb_types.specs.RandomBytes.{AreEnoughForReply};
+ghost use Rattle.krb_messages.specs.RandomBytes.{AreEnoughForReply};
 ghost use Rattle.krb_tickets.specs.Grant.{grant_of};
 ghost use Rattle.krb_tickets.specs.Granted.{IsTicketReply};
 ghost use Rattle.krb_tickets.specs.ReplyKeys.{reply_key_of};
 
+use crate::confounder_at;
 use crate::grant::{Grant, sealed_ticket};
 use crate::reply::{ReplyKey, reply_bytes, sealed_reply};
 use krb_accounts::Account;
-use krb_encrypted_data::confounder_at;
-use krb_types::random_bytes::{REPLY_CONFOUNDER, TICKET_CONFOUNDER};
+use krb_messages::random_bytes::{REPLY_CONFOUNDER, TICKET_CONFOUNDER};
 use std::alloc::{AllocError, Global};
 
 /// Makes the reply with the ticket (RFC 4120, section 5.4.2): the ticket's part under the service's key, with its kvno, and

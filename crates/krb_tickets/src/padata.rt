@@ -3,7 +3,7 @@ ghost use Rattle.std.specs.Prelude.{◌≡◌};
 ghost use Rattle.std.specs.Option.{option_copied};
 ghost use Rattle.krb_tickets.specs.Padata.{first_padata, first_of};
 
-use krb_types::data_types::PaData;
+use krb_messages::data_types::PaData;
 use picky_asn1::is_number;
 use picky_asn1::wrapper::OctetStringAsn1;
 

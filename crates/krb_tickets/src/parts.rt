@@ -3,19 +3,19 @@ ghost use Rattle.std.specs.Prelude.{◌≡◌, IfOk};
 ghost use Rattle.krb_tickets.specs.Grant.{grant_of};
 ghost use Rattle.krb_tickets.specs.Parts.{flags_octet, flags_of, last_requests, no_realms, reply_part, ticket_part};
 
+use crate::encryption_key;
 use crate::grant::{Grant, TicketFlags};
+use decision_tables::both;
 use krb_constants::ticket_flags::{INITIAL_MASK, PRE_AUTHENT_MASK};
-use krb_encrypted_data::encryption_key;
-use krb_messages::messages::EncKdcRepPart;
-use krb_types::data_types::{
+use krb_messages::data_types::{
     EncTicketPartInner, KerberosFlags, LastReq, LastReqInner, TransitedEncoding,
 };
+use krb_messages::messages::EncKdcRepPart;
 use picky_asn1::date::GeneralizedTime;
 use picky_asn1::wrapper::{
     Asn1SequenceOf, BitStringAsn1, GeneralizedTimeAsn1, IntegerAsn1, OctetStringAsn1,
 };
 use picky_asn1_der::{ExplicitContextTag, LentFields, Optional};
-use result_pairs::both;
 use std::alloc::{AllocError, Global};
 
 /// The encoding of transited realms that RFC 4120 names, DOMAIN-X500-COMPRESS (section 7.5.5).

@@ -10,6 +10,8 @@ ghost use Rattle.krb_tickets.specs.ReplyKeys.{reply_key_of};
 use crate::grant::{Grant, ticket_of};
 use crate::methods::pa_data;
 use crate::parts::reply_part;
+use crate::sealed_data;
+use decision_tables::both;
 use krb_accounts::Account;
 use krb_constants::key_usages;
 use krb_constants::padata_types::PA_PK_AS_REP;
@@ -18,14 +20,12 @@ use krb_constants::types::{
     TGS_REP_MSG_TYPE,
 };
 use krb_crypto::Key;
-use krb_encrypted_data::sealed_data;
+use krb_messages::data_types::{EncryptedData, PaData};
 use krb_messages::messages::{EncKdcRepPart, KdcRep};
-use krb_types::data_types::{EncryptedData, PaData};
 use picky_asn1::wrapper::{Asn1SequenceOf, IntegerAsn1};
 use picky_asn1_der::{
     ApplicationTag, ExplicitContextTag, ExplicitContextTag2, LentFields, Optional, tagged_encoding,
 };
-use result_pairs::both;
 use std::alloc::{AllocError, Global};
 
 /// The exchange that a ticket is granted in (RFC 4120, sections 3.1 and 3.3).

@@ -4,3 +4,5 @@ pub mod Moment
 pub mod Skew
 pub mod Times
 pub mod SecondOf
+pub mod Counts
+pub mod Epoch

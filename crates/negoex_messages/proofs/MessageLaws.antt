@@ -2,10 +2,10 @@
 use Rattle.std.proofs.Common.{◌≡◌, ℕ, List, [], ◌++◌, length, take, Result, Ok, Err, ap, sym, subst, ◌∙◌, append_assoc, append-nil, inl, inr, arith}
 use Rattle.std.specs.Prelude.{IfOk}
 use Rattle.std.proofs.lemmas.List.{length-append, take_at, length-take}
-use Rattle.byte_layouts.proofs.NumberLaws.{AreBytes, bytes-cut}
-use Rattle.negoex_types.specs.Form.{Layout, Answer, Answers, IsPut, IsWithin}
-use Rattle.negoex_types.specs.Laws.{LayoutLaws}
-use Rattle.negoex_types.specs.declared.error.NegoexError.{NegoexError}
+use Rattle.byte_streams.proofs.NumberLaws.{AreBytes, bytes-cut}
+use Rattle.negoex_messages.specs.Form.{Layout, Answer, Answers, IsPut, IsWithin}
+use Rattle.negoex_messages.specs.Laws.{LayoutLaws}
+use Rattle.negoex_messages.specs.declared.error.NegoexError.{NegoexError}
 use Rattle.negoex_messages.specs.Messages.{IsMessage, message_bytes, IsTrueOffset, GivesBack, WrittenIsRead}
 
 pub message-written : {V : Type 0} (l : Layout V) → LayoutLaws l → (filler : List ℕ) (v : V) (o : ℕ) → IsTrueOffset l filler o → IsWithin o (l.payload v)

@@ -6,12 +6,12 @@ use Rattle.std.proofs.lemmas.List.{take_at, take_all, length-take}
 use Rattle.std.specs.Io.KnownBytes.{Consumes, IsAtEnd}
 use Rattle.std.specs.declared.io.ErrorKind.{ErrorKind}
 use Rattle.std.specs.declared.io.ErrorKind.TheVariants.{OutOfMemory}
-use Rattle.byte_layouts.specs.Stops.{IsStop}
-use Rattle.byte_layouts.proofs.StopLaws.{stopped-once}
-use Rattle.byte_layouts.proofs.NumberLaws.{AreBytes}
-use Rattle.negoex_types.specs.Form.{Layout, Answer, Answers}
-use Rattle.negoex_types.specs.Laws.{LayoutLaws}
-use Rattle.negoex_types.specs.declared.error.NegoexError.{NegoexError}
+use Rattle.byte_streams.specs.Stops.{IsStop}
+use Rattle.byte_streams.proofs.StopLaws.{stopped-once}
+use Rattle.byte_streams.proofs.NumberLaws.{AreBytes}
+use Rattle.negoex_messages.specs.Form.{Layout, Answer, Answers}
+use Rattle.negoex_messages.specs.Laws.{LayoutLaws}
+use Rattle.negoex_messages.specs.declared.error.NegoexError.{NegoexError}
 use Rattle.negoex_messages.specs.Sources.{IsCutShort, IsRefusal, IsGiven, IsWrongFront, TellsRead}
 
 -- what a header that ends too soon is answered by

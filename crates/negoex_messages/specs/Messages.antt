@@ -2,9 +2,9 @@
 use Rattle.std.specs.Prelude.{◌≡◌, ℕ, ◌+◌, ◌⊎◌, List, ◌++◌, length, take, Ok, Option, Result, MatchResult}
 use Rattle.std.specs.declared.io.ErrorKind.{ErrorKind}
 use Rattle.std.specs.declared.io.ErrorKind.TheVariants.{OutOfMemory}
-use Rattle.byte_layouts.specs.Stops.{IsWriteStop}
-use Rattle.negoex_types.specs.Form.{Layout, IsWithin, IsTooLong}
-use Rattle.negoex_types.specs.declared.error.NegoexError.{NegoexError}
+use Rattle.byte_streams.specs.Stops.{IsWriteStop}
+use Rattle.negoex_messages.specs.Form.{Layout, IsWithin, IsTooLong}
+use Rattle.negoex_messages.specs.declared.error.NegoexError.{NegoexError}
 
 -- the value is in the message: its header in front, and its payload where the header says
 abbrev pub IsMessage : {V : Type 0} → Layout V → V → List ℕ → Type 0

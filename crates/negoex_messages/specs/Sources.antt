@@ -4,9 +4,9 @@ use Rattle.std.specs.Io.KnownBytes.{Consumes}
 use Rattle.std.specs.declared.io.ErrorKind.{ErrorKind}
 use Rattle.std.specs.declared.io.ErrorKind.TheVariants.{OutOfMemory, UnexpectedEof}
 use Rattle.byte_streams.specs.Counting.{one_more}
-use Rattle.byte_layouts.specs.Stops.{FailedAtMostOnce}
-use Rattle.negoex_types.specs.Form.{Layout}
-use Rattle.negoex_types.specs.declared.error.NegoexError.{NegoexError}
+use Rattle.byte_streams.specs.Stops.{FailedAtMostOnce}
+use Rattle.negoex_messages.specs.Form.{Layout}
+use Rattle.negoex_messages.specs.declared.error.NegoexError.{NegoexError}
 
 -- what is wrong with bytes that a device cut is answered, and in the place of their end the device's fault
 abbrev pub IsCutShort : ErrorKind → ErrorKind → ErrorKind → Type 0

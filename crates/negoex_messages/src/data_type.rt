@@ -1,17 +1,15 @@
 //! The types of which messages are made up, read from and written to devices.
 ghost use Rattle.std.specs.Prelude.{◌≡◌, ℕ, ◌+◌, ◌-◌, ◌^◌, ◌≤◌, ◌⊎◌, List, [], length, min, take, IfOk, IfErr, IfSome, MatchResult};
 ghost use Rattle.std.specs.Io.KnownBytes.{Appends, Consumes};
-ghost use Rattle.negoex_types.specs.Form.{IsTooLong};
+ghost use Rattle.negoex_messages.specs.Form.{IsTooLong};
 ghost use Rattle.negoex_messages.specs.Messages.{IsMessage, message_bytes, IsTrueOffset, IsEncodeStop};
-ghost use Rattle.byte_layouts.specs.Stops.{IsWriteStop};
+ghost use Rattle.byte_streams.specs.Stops.{IsWriteStop};
 ghost use Rattle.negoex_messages.specs.Sources.{IsGiven, IsRefusal, TellsRead};
 
 use crate::reading::read_value;
 use crate::writing::{write_out, write_value};
+use crate::{Checksum, Extension, Guid, Laid, MessageHeader, MessageType, NegoexError, Wide};
 use byte_streams::{Sink, Source};
-use negoex_types::{
-    Checksum, Extension, Guid, Laid, MessageHeader, MessageType, NegoexError, Wide,
-};
 use std::alloc::Global;
 
 /// A type of which messages are made up (MS-NEGOEX, section 2.2.5).

@@ -1,13 +1,12 @@
 //! Whole messages, written and read.
 ghost use Rattle.std.specs.Prelude.{◌≡◌, ℕ, List, take, Ok, IfOk, IfErr, MatchResult};
 ghost use Rattle.std.specs.Io.KnownBytes.{Appends};
-ghost use Rattle.negoex_types.specs.Form.{Answers, IsWithin, IsTooLong};
+ghost use Rattle.negoex_messages.specs.Form.{Answers, IsWithin, IsTooLong};
 ghost use Rattle.negoex_messages.specs.Messages.{IsMessage, message_bytes, IsTrueOffset, IsEncodeStop, GivesBack, WrittenIsRead};
 
 use crate::writing::{bytes_of, write_value};
+use crate::{Exchange, Laid, Nego, NegoexError, Verify, Wide, front_of};
 use byte_streams::Sink;
-use negoex_structs::{Exchange, Nego, Verify};
-use negoex_types::{Laid, NegoexError, Wide, front_of};
 use std::alloc::Global;
 
 /// A message of NEGOEX.

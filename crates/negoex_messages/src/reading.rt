@@ -1,12 +1,11 @@
 //! Headers read from a device.
 ghost use Rattle.std.specs.Prelude.{◌≡◌, ℕ, ◌≤◌, List, length, IfOk, IfErr, IfSome, MatchOption, MatchResult};
 ghost use Rattle.std.specs.Io.KnownBytes.{Consumes};
-ghost use Rattle.negoex_types.specs.Form.{Answers};
+ghost use Rattle.negoex_messages.specs.Form.{Answers};
 ghost use Rattle.negoex_messages.specs.Sources.{IsCutShort, IsRefusal, IsGiven, TellsRead};
 
-use byte_layouts::read_front;
-use byte_streams::Source;
-use negoex_types::{Laid, NegoexError};
+use crate::{Laid, NegoexError};
+use byte_streams::{Source, read_front};
 use std::alloc::Global;
 use std::io::ErrorKind;
 

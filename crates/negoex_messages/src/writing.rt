@@ -1,13 +1,12 @@
 //! Values written to a device.
 ghost use Rattle.std.specs.Prelude.{◌≡◌, ℕ, List, take, IfOk, MatchResult};
 ghost use Rattle.std.specs.Io.KnownBytes.{Appends};
-ghost use Rattle.byte_layouts.specs.Stops.{IsWriteStop};
-ghost use Rattle.negoex_types.specs.Form.{IsTooLong};
+ghost use Rattle.byte_streams.specs.Stops.{IsWriteStop};
+ghost use Rattle.negoex_messages.specs.Form.{IsTooLong};
 ghost use Rattle.negoex_messages.specs.Messages.{IsMessage, message_bytes, IsTrueOffset, IsEncodeStop};
 
-use byte_layouts::write_bytes;
-use byte_streams::Sink;
-use negoex_types::{Laid, NegoexError, extend};
+use crate::{Laid, NegoexError, extend};
+use byte_streams::{Sink, write_bytes};
 use std::alloc::Global;
 
 // The header, these bytes and the payload, which is said to begin at `offset`.

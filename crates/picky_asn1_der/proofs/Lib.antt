@@ -1,3 +1,7 @@
+pub mod Peeks
+pub mod Splits
+pub mod Streams
+mod PathLemmas
 pub mod ChoiceLemmas
 pub mod DefaultLemmas
 pub mod RawLemmas

@@ -2,7 +2,7 @@
 use Rattle.std.proofs.Common.{◌≡◌, ℕ, true, List, ◌∷◌, ◌++◌, Some, sym, ap, subst, ◌∙◌}
 use Rattle.asn1_der.proofs.Elements.{element-begins}
 use Rattle.asn1_der.proofs.Leaf.{leaf-whole, der-leaf}
-use Rattle.asn1_elements.specs.Raw.{has_low_number, raw_tree}
+use Rattle.picky_asn1_der.specs.Raw.{has_low_number, raw_tree}
 use Rattle.asn1_codec.specs.Reading.{Reading, IsSpelling, IsElement}
 use Rattle.asn1_codec.proofs.FieldsLemmas.{nonempty}
 use Rattle.picky_asn1_der.proofs.ChoiceLemmas.{spelled_octets}

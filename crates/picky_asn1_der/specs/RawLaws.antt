@@ -7,7 +7,7 @@ use Rattle.asn1_der.proofs.Elements.{element-one}
 use Rattle.asn1_der.proofs.Leaf.{leaf-whole, der-leaf}
 use Rattle.asn1_der.proofs.Spelling.{IsInjective}
 use Rattle.asn1_der.proofs.Rows.{AllBeginAmong}
-use Rattle.asn1_elements.specs.Raw.{has_low_number, raw_tree}
+use Rattle.picky_asn1_der.specs.Raw.{has_low_number, raw_tree}
 
 begins_any : (valid : Bool) (first : ℕ) (content : List ℕ) → BeginsAmong any_octet (leaf valid first content)
 begins_any true first content = refl

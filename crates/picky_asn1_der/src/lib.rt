@@ -1,12 +1,18 @@
-//! Canonical DER of typed values (X.690).
+//! Canonical DER of typed values (X.690), and elements taken apart by hand.
 //!
 //! [`from_bytes`] reads a value from its one spelling, and [`to_vec`] writes it. A struct names its fields once, as a
 //! row of pairs, and is read and written through it ([`Tagged`]); docs/DER.md says how a type is written.
 //!
+//! [`split_element`] returns the element that begins an input, in place, and [`Tag`] reads an identifier octet. The
+//! module `misc` is for code that reads and writes octets by itself. [`part_at`] returns a part of an element by its path.
+//!
 //! Tags, choices, defaults, lists, containers and raw elements have one encoding for each value, which [`Serialize`] writes and
 //! [`Deserialize`] reads. `Asn1RawDer::new` makes a raw element of bytes if and only if they are one element. [`encoding_of`] and
 //! [`tagged_encoding`] answer the encoding of a value, and [`Lent`] is written as the value that it borrows. What [`read_whole`] finds is
-//! the value that the bytes are the encoding of. `LentFields::copied` copies each field by its own `clone`.
+//! the value that the bytes are the encoding of. `LentFields::copied` copies each field by its own `clone`. [`split_element`] answers the
+//! first element of an input and the rest. Else it says `TruncatedData` if more bytes could complete an element, and `InvalidData` if none
+//! could. [`part_at`] answers the part at a path exactly where there is one. The types of `misc` read and write lengths, and the contents
+//! of BOOLEAN, INTEGER, NULL and UTF8String. Neither `split_element` nor `part_at` can run out of memory.
 #![tactic(auto)]
 
 ghost use Rattle.std.specs.Prelude.{◌≡◌};
@@ -18,13 +24,18 @@ mod choice;
 mod container;
 mod copies;
 mod default;
+mod element;
 mod encoding;
 mod implicit_tag;
 mod lent;
+pub mod misc;
+mod part;
 mod raw;
 mod raw_der;
 mod retagged;
 mod rows;
+mod tag;
+mod tag_peeker;
 mod whole;
 mod wrapper;
 
@@ -72,13 +83,6 @@ pub use asn1_der::Asn1DerError;
 pub use asn1_der::Content;
 pub use asn1_der::Rule;
 pub use asn1_der::Unsupported;
-pub use asn1_elements::Element;
-pub use asn1_elements::Tag;
-pub use asn1_elements::TagClass;
-pub use asn1_elements::TagPeeker;
-pub use asn1_elements::misc;
-pub use asn1_elements::misc::Length;
-pub use asn1_elements::split_element;
 pub use bit_container::BitStringContainer;
 pub use byte_buf::ByteBuf;
 pub use byte_streams::Sink;
@@ -93,6 +97,8 @@ pub use copies::LentFields;
 pub use copies::RecordFields;
 pub use default::DefaultField;
 pub use default::HasDefault;
+pub use element::Element;
+pub use element::split_element;
 pub use encoding::encoding_of;
 pub use encoding::tagged_encoding;
 pub use implicit_tag::ImplicitContextTag;
@@ -113,9 +119,14 @@ pub use implicit_tag::ImplicitContextTag13;
 pub use implicit_tag::ImplicitContextTag14;
 pub use implicit_tag::ImplicitContextTag15;
 pub use lent::Lent;
+pub use misc::Length;
+pub use part::part_at;
 pub use raw::RawElement;
 pub use raw_der::Asn1RawDer;
 pub use retagged::Retagged;
+pub use tag::Tag;
+pub use tag::TagClass;
+pub use tag_peeker::TagPeeker;
 pub use whole::read_whole;
 pub use wrapper::ExplicitContextTag;
 pub use wrapper::ExplicitContextTag0;

@@ -1,6 +1,6 @@
 //! Elements of any type.
 ghost use Rattle.std.specs.Prelude.{◌≡◌, MatchOption, IfSome, IsTrue};
-ghost use Rattle.asn1_elements.specs.Raw.{Raw, has_low_number};
+ghost use Rattle.picky_asn1_der.specs.Raw.{Raw, has_low_number};
 
 use asn1_codec::{Deserialize, Deserializer, Serialize, Serializer};
 use asn1_der::Asn1DerError;
@@ -17,7 +17,7 @@ pub struct RawElement {
 
 impl Model for RawElement {
     ghost use Rattle.std.specs.Prelude.{IsTrue};
-    ghost use Rattle.asn1_elements.specs.Raw.{Raw, has_low_number};
+    ghost use Rattle.picky_asn1_der.specs.Raw.{Raw, has_low_number};
 
     ghost Value = { Raw };
 
@@ -91,7 +91,7 @@ impl Eq for RawElement {
 
 impl Serialize for RawElement {
     ghost use Rattle.asn1_der.specs.Firsts.{any_octet};
-    ghost use Rattle.asn1_elements.specs.Raw.{raw_tree};
+    ghost use Rattle.picky_asn1_der.specs.Raw.{raw_tree};
     ghost use Rattle.picky_asn1_der.specs.RawLaws.{raw-begins, raw-injective};
 
     ghost tree = { raw_tree };

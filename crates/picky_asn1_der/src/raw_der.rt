@@ -1,13 +1,13 @@
 //! Elements of any type, as their bytes.
 ghost use Rattle.std.specs.Prelude.{◌≡◌, ◌≤◌, true, length, drop, MatchResult, IfOk};
 ghost use Rattle.asn1_der.specs.Length.{element};
-ghost use Rattle.asn1_elements.specs.Raw.{Raw, has_low_number};
-ghost use Rattle.asn1_elements.specs.Splits.{IsNotOne};
+ghost use Rattle.picky_asn1_der.specs.Raw.{Raw, has_low_number};
+ghost use Rattle.picky_asn1_der.specs.Splits.{IsNotOne};
 
 use crate::raw::RawElement;
+use crate::split_element;
 use asn1_codec::{Deserialize, Deserializer, Serialize, Serializer};
 use asn1_der::{Asn1DerError, LengthOctets};
-use asn1_elements::split_element;
 use byte_streams::{Sink, Source};
 use std::alloc::{AllocError, Global};
 use std::cmp::Ordering;
@@ -30,7 +30,7 @@ pub struct Asn1RawDer {
 impl Model for Asn1RawDer {
     ghost use Rattle.std.specs.Prelude.{◌≡◌, ◌≤◌, true, drop, length};
     ghost use Rattle.asn1_der.specs.Length.{element};
-    ghost use Rattle.asn1_elements.specs.Raw.{Raw, has_low_number};
+    ghost use Rattle.picky_asn1_der.specs.Raw.{Raw, has_low_number};
 
     ghost Value = { Raw };
 
@@ -103,7 +103,7 @@ fn one_element(bytes: &[u8]) -> Result<(u8, usize), Asn1DerError>
 
 impl Serialize for Asn1RawDer {
     ghost use Rattle.asn1_der.specs.Firsts.{any_octet};
-    ghost use Rattle.asn1_elements.specs.Raw.{raw_tree};
+    ghost use Rattle.picky_asn1_der.specs.Raw.{raw_tree};
     ghost use Rattle.picky_asn1_der.specs.RawLaws.{raw-begins, raw-injective};
 
     ghost tree = { raw_tree };
@@ -164,7 +164,7 @@ impl PartialEq for Asn1RawDer {
     ghost use Rattle.std.specs.Ordering.{on};
     ghost use Rattle.std.proofs.lemmas.Cmp.{nat_list_eq_equiv};
     ghost use Rattle.std.proofs.Common.{rules};
-    ghost use Rattle.asn1_elements.specs.Splits.{raw_bytes};
+    ghost use Rattle.picky_asn1_der.specs.Splits.{raw_bytes};
 
     ghost eq = { on raw_bytes (pointwise nat_eq) };
 
@@ -187,7 +187,7 @@ impl PartialOrd for Asn1RawDer {
     ghost use Rattle.std.specs.Ordering.{nat_cmp};
     ghost use Rattle.std.specs.Cmp.{on_po};
     ghost use Rattle.std.specs.Cmp.Lexicographic.{slice_cmp, texts_po};
-    ghost use Rattle.asn1_elements.specs.Splits.{raw_bytes};
+    ghost use Rattle.picky_asn1_der.specs.Splits.{raw_bytes};
 
     ghost partial_cmp = { λ a b. Some (slice_cmp nat_cmp (raw_bytes a) (raw_bytes b)) };
 
@@ -204,7 +204,7 @@ impl Ord for Asn1RawDer {
     ghost use Rattle.std.specs.Ordering.{nat_cmp};
     ghost use Rattle.std.specs.Cmp.{on_total};
     ghost use Rattle.std.specs.Cmp.Lexicographic.{slice_cmp, nat_list_cmp_total, texts_ties};
-    ghost use Rattle.asn1_elements.specs.Splits.{raw_bytes};
+    ghost use Rattle.picky_asn1_der.specs.Splits.{raw_bytes};
 
     ghost cmp = { λ a b. slice_cmp nat_cmp (raw_bytes a) (raw_bytes b) };
 
@@ -224,7 +224,7 @@ impl Hash for Asn1RawDer {
     ghost use Rattle.std.specs.Hash as fed;
     ghost use Rattle.std.specs.Cmp.Rules.{hashing};
     ghost use Rattle.std.proofs.Common.{rules};
-    ghost use Rattle.asn1_elements.specs.Splits.{raw_bytes};
+    ghost use Rattle.picky_asn1_der.specs.Splits.{raw_bytes};
 
     ghost hash_input = { λ raw. fed.slice fed.u8 (raw_bytes raw) };
 

@@ -7,38 +7,28 @@
 #![tactic(auto)]
 
 pub use picky_asn1::oid;
-pub use x509_algorithms::{AlgorithmIdentifier, AlgorithmIdentifierParameters, DigestInfo};
-pub use x509_attributes::{
-    AnyValues, Attribute, AttributeValues, Attributes, OpenSslAttributes, RequestedExtensions,
+pub use x509_algorithms::{
+    AesAuthEncParams, AesMode, AesParameters, AlgorithmIdentifier, AlgorithmIdentifierParameters,
+    DigestInfo, EcParameters, HashAlgorithm, MaskGenAlgorithm, RsassaPssParams, ShaVariant,
+    UnsupportedAlgorithmError,
 };
 pub use x509_certificates::{
-    Certificate, CertificateExtensions, CertificationRequest, CertificationRequestInfo,
-    TbsCertificate,
+    AnyValues, Attribute, AttributeValues, Attributes, AuthorityKeyIdentifier, Certificate,
+    CertificateExtensions, CertificationRequest, CertificationRequestInfo, ExtendedKeyUsage,
+    Extension, ExtensionValue, ExtensionView, Extensions, IssuerAltName, KeyIdentifier, KeyUsage,
+    OpenSslAttributes, RequestedExtensions, SubjectAltName, SubjectKeyIdentifier, TbsCertificate,
 };
 pub use x509_codec::{Signed, deviations, encoded_len, from_bytes, to_vec, with_signed_part};
-pub use x509_extensions::{
-    AuthorityKeyIdentifier, ExtendedKeyUsage, Extension, ExtensionValue, ExtensionView, Extensions,
-    IssuerAltName, KeyIdentifier, KeyUsage, SubjectAltName, SubjectKeyIdentifier,
+pub use x509_fields::{
+    AttributeTypeAndValue, AttributeTypeAndValueParameters, AttributeValue, BasicConstraints,
+    DirectoryName, DirectoryString, EdiPartyName, GeneralName, GeneralNames, Name, NameAttr,
+    NamePrettyFormatter, OtherName, RawAlgorithmIdentifier, RdnSequence, RelativeDistinguishedName,
+    Rfc4514, Time, Validity, Version,
 };
 pub use x509_keys::{
-    EcPoint, EncapsulatedEcPoint, EncapsulatedMldsaPublicKey, EncapsulatedRsaPublicKey, PublicKey,
-    RsaPublicKey, SubjectPublicKeyInfo,
-};
-pub use x509_names::{
-    AttributeTypeAndValue, AttributeTypeAndValueParameters, AttributeValue, DirectoryName,
-    EdiPartyName, GeneralName, GeneralNames, Name, NameAttr, NamePrettyFormatter, OtherName,
-    RdnSequence, RelativeDistinguishedName, Rfc4514,
+    ECPrivateKey, EcPoint, EncapsulatedEcPoint, EncapsulatedEcSecret, EncapsulatedMldsaPublicKey,
+    EncapsulatedRsaPublicKey, PRIVATE_KEY_INFO_VERSION_1, PRIVATE_KEY_INFO_VERSION_2,
+    PrivateKeyInfo, PrivateKeyValue, PublicKey, RsaPrivateKey, RsaPublicKey, SubjectPublicKeyInfo,
 };
 pub use x509_oids as oids;
-pub use x509_parameters::{
-    AesAuthEncParams, AesMode, AesParameters, EcParameters, HashAlgorithm, MaskGenAlgorithm,
-    RsassaPssParams, ShaVariant, UnsupportedAlgorithmError,
-};
-pub use x509_parts::{
-    BasicConstraints, DirectoryString, RawAlgorithmIdentifier, Time, Validity, Version,
-};
-pub use x509_private_keys::{
-    ECPrivateKey, EncapsulatedEcSecret, PRIVATE_KEY_INFO_VERSION_1, PRIVATE_KEY_INFO_VERSION_2,
-    PrivateKeyInfo, PrivateKeyValue, RsaPrivateKey,
-};
 pub use x509_spelling::{Spelled, X509Fault};

@@ -14,8 +14,8 @@
 //! This crate has no contract of its own. Each item is one of a crate below, with its contract there.
 #![tactic(auto)]
 
-pub use krb_encrypted_data::{OpenFault, open_part, open_whole};
 pub use krb_messages::from_bytes;
+pub use krb_tickets::{OpenFault, open_part, open_whole};
 pub use picky_asn1_der::read_whole;
 
 /// Numbers of the standards.
@@ -27,7 +27,7 @@ pub mod constants {
 
 /// Credentials that CredSSP delegates (MS-CSSP).
 pub mod credssp {
-    pub use credssp_messages::{
+    pub use microsoft_messages::{
         TsCredentials, TsCspDataDetail, TsPasswordCreds, TsRemoteGuardCreds,
         TsRemoteGuardPackageCred, TsSmartCardCreds,
     };
@@ -51,16 +51,10 @@ pub mod crypto {
 
 /// What messages hold, and the record of a process's integrity level.
 pub mod data_types {
-    pub use gss_message_tokens::{
+    pub use gss_contexts::{
         LsapTokenInfoIntegrity, LsapTokenInfoIntegrityError, MACHINE_ID_LENGTH,
     };
-    pub use kile_messages::{
-        KerbAdRestrictionEntry, KerbErrorData, KerbPaPacRequest, PaPacOptions,
-    };
-    pub use kpasswd_messages::{ChangePasswdData, EncKrbPrivPart, EncKrbPrivPartInner};
-    pub use krb_credentials::{EncKrbCredPart, EncKrbCredPartInner, KrbCredInfo};
-    pub use krb_messages::{KrbResult, ResultExt};
-    pub use krb_types::data_types::{
+    pub use krb_messages::data_types::{
         ApOptions, Authenticator, AuthenticatorInner, AuthorizationData, AuthorizationDataInner,
         Checksum, EncApRepPart, EncApRepPartInner, EncTicketPart, EncTicketPartInner,
         EncryptedData, EncryptionKey, EtypeInfo2, EtypeInfo2Entry, HostAddress, HostAddresses,
@@ -68,28 +62,35 @@ pub mod data_types {
         PaData, PaEncTimestamp, PaEncTsEnc, PrincipalName, Realm, Ticket, TicketInner,
         TransitedEncoding,
     };
+    pub use krb_messages::{
+        EncKrbCredPart, EncKrbCredPartInner, KrbCredInfo, KrbResult, ResultExt,
+    };
+    pub use microsoft_messages::{
+        ChangePasswdData, EncKrbPrivPart, EncKrbPrivPartInner, KerbAdRestrictionEntry,
+        KerbErrorData, KerbPaPacRequest, PaPacOptions,
+    };
 }
 
 /// Tokens of the GSS-API mechanism (RFC 4121), and those by which a mechanism is negotiated (RFC 4178).
 pub mod gss_api {
-    pub use gss_context_tokens::{
-        ApplicationTag0, GssApiNegInit, IAKerbProxyMessage, KrbMessage, MechType, MechTypeList,
-        NegTokenInit, NegTokenTarg, NegTokenTarg1, TokenSequence,
+    pub use gss_contexts::{
+        ApplicationTag0, GssApiMessageError, GssApiNegInit, IAKerbProxyMessage, KrbMessage,
+        MechType, MechTypeList, MicToken, NegTokenInit, NegTokenTarg, NegTokenTarg1, TokenSequence,
+        WrapToken,
     };
-    pub use gss_message_tokens::{GssApiMessageError, MicToken, WrapToken};
 }
 
 /// Messages (RFC 4120, section 5), and the exchange that changes a password (RFC 3244).
 pub mod messages {
-    pub use gss_context_tokens::{IAKerbCookie, IAKerbHeader};
-    pub use kile_messages::{KdcProxyMessage, TgtRep, TgtReq};
-    pub use kpasswd_messages::{
-        ApMessage, KrbPriv, KrbPrivFrame, KrbPrivFrameError, KrbPrivInner, KrbPrivMessage,
-    };
-    pub use krb_credentials::{KrbCred, KrbCredInner};
+    pub use gss_contexts::{IAKerbCookie, IAKerbHeader};
     pub use krb_messages::messages::{
         ApRep, ApRepInner, ApReq, ApReqInner, AsRep, AsReq, EncAsRepPart, EncKdcRepPart,
         EncTgsRepPart, KdcRep, KdcReq, KdcReqBody, KrbError, KrbErrorInner, TgsRep, TgsReq,
+    };
+    pub use krb_messages::{KrbCred, KrbCredInner};
+    pub use microsoft_messages::{
+        ApMessage, KdcProxyMessage, KrbPriv, KrbPrivFrame, KrbPrivFrameError, KrbPrivInner,
+        KrbPrivMessage, TgtRep, TgtReq,
     };
 }
 
@@ -97,9 +98,8 @@ pub mod messages {
 pub mod negoex {
     pub use negoex_messages::{
         CHECKSUM_SCHEME_RFC3961, Laid, NEGOEXTS_MESSAGE_SIGNATURE, NegoexDataType, NegoexError,
-        NegoexMessage, RANDOM_ARRAY_SIZE, Wide, written_is_read,
+        NegoexMessage, PROTOCOL_VERSION, RANDOM_ARRAY_SIZE, Wide, written_is_read,
     };
-    pub use negoex_structs::PROTOCOL_VERSION;
 
     /// What messages hold (MS-NEGOEX, section 2.2.5).
     pub mod data_types {
@@ -111,15 +111,14 @@ pub mod negoex {
 
     /// Its messages (MS-NEGOEX, section 2.2.6).
     pub mod messages {
-        pub use negoex_structs::{Exchange, Nego, Verify};
+        pub use negoex_messages::{Exchange, Nego, Verify};
     }
 }
 
 /// PACs (MS-PAC).
 pub mod pac {
-    pub use pac_layouts::{
-        Pac, PacBuffer, PacBufferType, PacError, PacInfoBuffer, written_is_read,
-    };
+    pub use microsoft_messages::pac::written_is_read;
+    pub use microsoft_messages::{Pac, PacBuffer, PacBufferType, PacError, PacInfoBuffer};
 }
 
 /// Preauthentication by certificate (RFC 4556), and PKU2U, which negotiates on certificates between peers.

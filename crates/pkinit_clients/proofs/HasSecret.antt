@@ -2,32 +2,32 @@
 use Rattle.std.proofs.Common.{Bool, true, false, not, Result, Ok, Err, refl, inl, inr}
 use Rattle.std.specs.Bool.{nat_eq}
 use Rattle.std.specs.Cmp.Lexicographic.{pointwise}
-use Rattle.asn1_elements.specs.Raw.{Raw}
+use Rattle.picky_asn1_der.specs.Raw.{Raw}
 use Rattle.picky_asn1.specs.Bytes.{Bytes}
 use Rattle.picky_asn1.specs.Integer.{integer_content}
 use Rattle.picky_asn1.specs.Numbers.{is_number}
 use Rattle.sha2.specs.Sha256.{sha256}
 use Rattle.decision_tables.specs.Tables.{Table, and_then, and_then_told, ask, done, need, refuse}
 use Rattle.decision_tables.proofs.Outcomes.{HasOutcome, has_asked, has_done, has_needed, has_refused}
-use Rattle.key_functions.specs.KeyFunctions.{KeysRecord}
-use Rattle.key_functions.specs.KeyFunctions.TheirValue.{ValueBits}
+use Rattle.x509_keys.specs.KeyFunctions.{KeysRecord}
+use Rattle.x509_keys.specs.KeyFunctions.TheirValue.{ValueBits}
 use Rattle.cms_signed_data.specs.SignedContents.{IsSignedContent}
 use Rattle.cms_signed_data.specs.SignedLaws.{one_content}
 use Rattle.cms_signed_data.specs.SignedParts.{SignedParts, content_of}
-use Rattle.krb_types.specs.Names.{components, is_same_name, is_same_realm}
+use Rattle.krb_messages.specs.Names.{components, is_same_name, is_same_realm}
 use Rattle.pkinit_messages.specs.declared.kdc_dh_key_info.KdcDhKeyInfo.{KdcDhKeyInfo}
 use Rattle.pkinit_messages.specs.declared.pa_pk_as_rep.PaPkAsRep.{PaPkAsRep}
-use Rattle.pkinit_trust.specs.Accepted.{accepted, has_unrecognised, is_valid_at, issued}
-use Rattle.pkinit_trust.specs.Certificates.{IsCertificate, ReadRecord, name_bytes, sole_certificate}
-use Rattle.pkinit_trust.specs.Expected.{ExpectedRecord}
-use Rattle.pkinit_trust.specs.Judged.{JudgedRecord}
-use Rattle.pkinit_trust.specs.Principals.{IsPrincipal, element_of, named, sole_principal}
-use Rattle.pkinit_trust.specs.SignedContents.{judged_in}
-use Rattle.pkinit_trust.specs.Signers.{signed_by as signed_by_holder}
-use Rattle.pkinit_trust.specs.Trusted.{trusted, trusted_by}
-use Rattle.pkinit_trust.specs.declared.principal_name.Krb5PrincipalName.{Krb5PrincipalName}
-use Rattle.pkinit_trust.specs.declared.refusal.TrustRefusal.{TrustRefusal}
-use Rattle.pkinit_trust.specs.declared.refusal.TrustRefusal.TheVariants.{CantVerifyCertificate, InvalidCertificate, InvalidSignature, NameMismatch}
+use Rattle.pkinit_validation.specs.Accepted.{accepted, has_unrecognised, is_valid_at, issued}
+use Rattle.pkinit_validation.specs.Certificates.{IsCertificate, ReadRecord, name_bytes, sole_certificate}
+use Rattle.pkinit_validation.specs.Expected.{ExpectedRecord}
+use Rattle.pkinit_validation.specs.Judged.{JudgedRecord}
+use Rattle.pkinit_validation.specs.Principals.{IsPrincipal, element_of, named, sole_principal}
+use Rattle.pkinit_validation.specs.SignedContents.{judged_in}
+use Rattle.pkinit_validation.specs.Signers.{signed_by as signed_by_holder}
+use Rattle.pkinit_validation.specs.Trusted.{trusted, trusted_by}
+use Rattle.pkinit_validation.specs.declared.principal_name.Krb5PrincipalName.{Krb5PrincipalName}
+use Rattle.pkinit_validation.specs.declared.refusal.TrustRefusal.{TrustRefusal}
+use Rattle.pkinit_validation.specs.declared.refusal.TrustRefusal.TheVariants.{CantVerifyCertificate, InvalidCertificate, InvalidSignature, NameMismatch}
 use Rattle.pkinit_clients.specs.Asked.{PkinitAskedRecord, expected_realm}
 use Rattle.pkinit_clients.specs.Faults.{Secret}
 use Rattle.pkinit_clients.specs.Replies.{IsKdcDhKeyInfo, IsPaPkAsRep, is_dh_key_data, of_content, of_key_data, of_key_info, of_reply, of_signed, secret_of, signed_by, signed_in, sole_kdc_dh_key_info, sole_pa_pk_as_rep}

@@ -2,11 +2,11 @@
 use Rattle.std.proofs.Common.{◌≡◌, ℕ, ◌%◌, List, Option, None, Some, inl, inr, sym, ap, ◌∙◌, subst}
 use Rattle.std.specs.Prelude.{Vec}
 use Rattle.std.specs.Global.{Global}
-use Rattle.asn1_elements.specs.Raw.{Raw}
+use Rattle.picky_asn1_der.specs.Raw.{Raw}
 use Rattle.asn1_leaves.specs.declared.date.GeneralizedTime.{GeneralizedTime}
 use Rattle.krb_time.specs.SecondOf.{IsSecondOf, sole_second}
 use Rattle.krb_messages.specs.declared.messages.kdc_req_body.KdcReqBody.{KdcReqBody}
-use Rattle.key_functions.specs.KeyFunctions.{KeysRecord}
+use Rattle.x509_keys.specs.KeyFunctions.{KeysRecord}
 use Rattle.cms_signed_data.specs.Written.{IsWritten, signed_bytes}
 use Rattle.pkinit_clients.specs.AuthPacks.{auth_data, auth_pack_bytes, auth_pack_of, authenticator_of}
 use Rattle.pkinit_clients.specs.Requests.{IsNoPkAsReq, IsPkAsReqOf, pack_bytes, pk_as_req_bytes, pk_as_req_of}

@@ -2,7 +2,7 @@
 use Rattle.std.proofs.Common.{◌≡◌, ℕ, List, Option, None, Some, inl, inr, subst}
 use Rattle.std.specs.Prelude.{◌⊎◌, Vec, MatchOption}
 use Rattle.std.specs.Global.{Global}
-use Rattle.key_functions.specs.declared.functions.Signed.{Signed}
+use Rattle.x509_keys.specs.declared.functions.Signed.{Signed}
 use Rattle.cms_signed_data.specs.Written.{IsNoCertificate, IsUnsigned, IsWritten, signed_bytes}
 use Rattle.cms_signed_data.specs.declared.fault.SignedFault.{SignedFault}
 use Rattle.cms_signed_data.specs.declared.fault.SignedFault.TheVariants.{Unreadable, Memory}

@@ -1,15 +1,15 @@
 -- Who is trusted, as the table of replies has it.
 use Rattle.std.proofs.Common.{◌≡◌, ℕ, List, Result, Ok, Err, inl, inr, refl, sym, subst}
-use Rattle.key_functions.specs.KeyFunctions.{KeysRecord}
+use Rattle.x509_keys.specs.KeyFunctions.{KeysRecord}
 use Rattle.cms_signed_data.specs.SignedParts.{SignedParts}
-use Rattle.pkinit_trust.specs.Expected.{ExpectedRecord}
-use Rattle.pkinit_trust.specs.Judged.{JudgedRecord}
-use Rattle.pkinit_trust.specs.SignedContents.{judged_in}
-use Rattle.pkinit_trust.specs.Trusted.{trusted}
-use Rattle.pkinit_trust.specs.Refusals.{IsOutcome}
-use Rattle.pkinit_trust.specs.declared.refusal.TrustFault.{TrustFault}
-use Rattle.pkinit_trust.specs.declared.refusal.TrustFault.TheVariants.{Refused, Memory}
-use Rattle.krb_types.specs.TicketGranting.{krbtgt_of}
+use Rattle.pkinit_validation.specs.Expected.{ExpectedRecord}
+use Rattle.pkinit_validation.specs.Judged.{JudgedRecord}
+use Rattle.pkinit_validation.specs.SignedContents.{judged_in}
+use Rattle.pkinit_validation.specs.Trusted.{trusted}
+use Rattle.pkinit_validation.specs.Refusals.{IsOutcome}
+use Rattle.pkinit_validation.specs.declared.refusal.TrustFault.{TrustFault}
+use Rattle.pkinit_validation.specs.declared.refusal.TrustFault.TheVariants.{Refused, Memory}
+use Rattle.krb_messages.specs.TicketGranting.{krbtgt_of}
 use Rattle.pkinit_clients.specs.Asked.{PkinitAskedRecord, expected_realm}
 use Rattle.pkinit_clients.specs.Faults.{IsTakenAs, fault_of}
 use Rattle.pkinit_clients.specs.Replies.{signed_by}

@@ -7,21 +7,21 @@ use Rattle.asn1_der.specs.Length.{element}
 use Rattle.asn1_der.specs.Tagged.{tagged_tree}
 use Rattle.asn1_der.specs.Tree.{Tree, Trees, primitive, constructed, more, none, der, ders, leaf, put, trees_of, wrapped, AreWhole, IsWhole}
 use Rattle.asn1_der.proofs.Spelling.{der-wrapped, wrapped-whole}
-use Rattle.asn1_elements.specs.Raw.{has_low_number}
-use Rattle.asn1_elements.specs.PathLaws.{AreSome, IsElement, LeadsIn, LeadsTo, at_front, behind_front, go_on, held_at, in_element, part_there, second_at, some_more}
+use Rattle.picky_asn1_der.specs.Raw.{has_low_number}
+use Rattle.picky_asn1_der.specs.PathLaws.{AreSome, IsElement, LeadsIn, LeadsTo, at_front, behind_front, go_on, held_at, in_element, part_there, second_at, some_more}
 use Rattle.picky_asn1.specs.Bytes.{Bytes}
 use Rattle.picky_asn1.specs.Integer.{integer_content}
 use Rattle.picky_asn1.specs.Numbers.{is_number}
 use Rattle.picky_asn1_der.specs.declared.wrapper.ExplicitContextTag.{ExplicitContextTag}
-use Rattle.krb_types.specs.Trees.{encrypted_data_tree, pa_data_tree}
-use Rattle.krb_types.specs.contracts.data_types.principal_name.PrincipalNameTagged.TheImpl as name_impl
-use Rattle.krb_types.specs.contracts.data_types.ticket.TicketInnerTagged.TheImpl as ticket_impl
-use Rattle.krb_types.specs.declared.data_types.pa_data.PaData.{PaData}
+use Rattle.krb_messages.specs.Trees.{encrypted_data_tree, pa_data_tree}
+use Rattle.krb_messages.specs.contracts.data_types.principal_name.PrincipalNameTagged.TheImpl as name_impl
+use Rattle.krb_messages.specs.contracts.data_types.ticket.TicketInnerTagged.TheImpl as ticket_impl
+use Rattle.krb_messages.specs.declared.data_types.pa_data.PaData.{PaData}
 use Rattle.krb_messages.specs.Messages.{IsAsRep}
-use Rattle.krb_messages.specs.Trees.{kdc_rep_inner_tree}
+use Rattle.krb_messages.specs.MessageTrees.{kdc_rep_inner_tree}
 use Rattle.krb_messages.specs.declared.messages.kdc_rep.KdcRep.{KdcRep}
 use Rattle.krb_tickets.specs.Padata.{first_of, first_padata}
-use Rattle.krb_kdc_requests.proofs.RequestParts.{within}
+use Rattle.krb_kdc_exchanges.proofs.RequestParts.{within}
 use Rattle.cms_signed_data.specs.Parts.{attributes_place, certificate_place}
 use Rattle.cms_signed_data.specs.SignedContents.{IsSignedContent}
 use Rattle.cms_signed_data.specs.SignedParts.{SignedParts}

@@ -2,9 +2,9 @@
 use Rattle.std.specs.Prelude.{ℕ}
 use Rattle.picky_asn1.specs.Bytes.{Bytes}
 use Rattle.krb_time.specs.Units.{Micros}
-use Rattle.krb_types.specs.TicketGranting.{krbtgt_of}
-use Rattle.pkinit_trust.specs.Anchors.{AnchorRecord}
-use Rattle.pkinit_trust.specs.Expected.{ExpectedRecord}
+use Rattle.krb_messages.specs.TicketGranting.{krbtgt_of}
+use Rattle.pkinit_validation.specs.Anchors.{AnchorRecord}
+use Rattle.pkinit_validation.specs.Expected.{ExpectedRecord}
 use Rattle.pkinit_clients.specs.declared.asked.PkinitAsked as held
 
 -- the client's realm and its anchor; the moment, the nonce, and the random bytes of the agreement

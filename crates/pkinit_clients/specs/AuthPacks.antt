@@ -3,7 +3,7 @@ use Rattle.std.specs.Prelude.{ℕ, None, Some, List, pos}
 use Rattle.sha1.specs.Sha1.{sha1}
 use Rattle.asn1_leaves.specs.declared.date.GeneralizedTime.{GeneralizedTime}
 use Rattle.asn1_der.specs.Tree.{der}
-use Rattle.asn1_elements.specs.Raw.{Raw}
+use Rattle.picky_asn1_der.specs.Raw.{Raw}
 use Rattle.picky_asn1.specs.Bytes.{Bytes}
 use Rattle.x509_oids.specs.Identifiers as oids
 use Rattle.krb_time.specs.Units.{Micros}

@@ -2,8 +2,8 @@
 use Rattle.std.specs.Prelude.{ℕ, Result, Ok, Err, Vec}
 use Rattle.std.specs.Global.{Global}
 use Rattle.picky_asn1.specs.Bytes.{Bytes}
-use Rattle.pkinit_trust.specs.declared.refusal.TrustFault as trust
-use Rattle.pkinit_trust.specs.declared.refusal.TrustFault.TheVariants as trust_fault
+use Rattle.pkinit_validation.specs.declared.refusal.TrustFault as trust
+use Rattle.pkinit_validation.specs.declared.refusal.TrustFault.TheVariants as trust_fault
 use Rattle.pkinit_clients.specs.declared.fault.ReplyFault.{ReplyFault}
 use Rattle.pkinit_clients.specs.declared.fault.ReplyFault.TheVariants.{NotTrusted, Memory}
 

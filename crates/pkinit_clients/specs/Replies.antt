@@ -12,8 +12,8 @@ use Rattle.picky_asn1.specs.Bytes.{Bytes}
 use Rattle.picky_asn1.specs.Numbers.{is_number}
 use Rattle.decision_tables.specs.One.{IsSole}
 use Rattle.decision_tables.specs.Tables.{Table, and_then, and_then_told, ask, done, need, refuse}
-use Rattle.key_functions.specs.KeyFunctions.{KeysRecord}
-use Rattle.key_functions.specs.KeyFunctions.TheirValue.{ValueBits}
+use Rattle.x509_keys.specs.KeyFunctions.{KeysRecord}
+use Rattle.x509_keys.specs.KeyFunctions.TheirValue.{ValueBits}
 use Rattle.cms_signed_data.specs.SignedContents.{IsSignedContent}
 use Rattle.cms_signed_data.specs.SignedLaws.{one_content}
 use Rattle.cms_signed_data.specs.SignedParts.{SignedParts, content_of}
@@ -22,9 +22,9 @@ use Rattle.pkinit_messages.specs.declared.pa_pk_as_rep.PaPkAsRep.{PaPkAsRep}
 use Rattle.pkinit_messages.specs.declared.pa_pk_as_rep.PaPkAsRep.TheVariants.{DhInfo, EncKeyPack}
 use Rattle.pkinit_messages.specs.contracts.kdc_dh_key_info.KdcDhKeyInfoTagged.TheImpl as info_impl
 use Rattle.pkinit_messages.specs.contracts.pa_pk_as_rep.PaPkAsRepSerialize.TheImpl as reply_impl
-use Rattle.pkinit_trust.specs.Expected.{ExpectedRecord}
-use Rattle.pkinit_trust.specs.SignedContents.{judged_in}
-use Rattle.pkinit_trust.specs.Trusted.{trusted}
+use Rattle.pkinit_validation.specs.Expected.{ExpectedRecord}
+use Rattle.pkinit_validation.specs.SignedContents.{judged_in}
+use Rattle.pkinit_validation.specs.Trusted.{trusted}
 use Rattle.pkinit_clients.specs.Asked.{PkinitAskedRecord, expected_realm}
 use Rattle.pkinit_clients.specs.Faults.{Secret}
 use Rattle.pkinit_clients.specs.declared.fault.ReplyFault.{ReplyFault}

@@ -1,10 +1,10 @@
 -- What a client verifies of a reply by certificate, as parts of its bytes (RFC 4120, section 5.4.2; RFC 4556, section 3.2.3.1).
 use Rattle.std.specs.Prelude.{ℕ, List, [], ◌∷◌, ◌++◌}
-use Rattle.asn1_elements.specs.Parts.{IsPart}
+use Rattle.picky_asn1_der.specs.Parts.{IsPart}
 use Rattle.picky_asn1.specs.Bytes.{Bytes}
 use Rattle.cms_signed_data.specs.Parts.{attributes_place, certificate_place}
 use Rattle.cms_signed_data.specs.SignedParts.{SignedParts}
-use Rattle.pkinit_trust.specs.Certificates.{IsCertificate, ReadRecord}
+use Rattle.pkinit_validation.specs.Certificates.{IsCertificate, ReadRecord}
 
 -- the path to the signed data of an AS-REP whose PA-PK-AS-REP has this number among the padata, which are the SEQUENCE's element number 2
 abbrev pub signed_place : ℕ → List ℕ

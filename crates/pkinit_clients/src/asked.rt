@@ -1,7 +1,7 @@
 //! What a client remembers of a request by certificate.
 use krb_time::Moment;
 use picky_asn1::wrapper::GeneralStringAsn1;
-use pkinit_trust::Anchor;
+use pkinit_validation::Anchor;
 
 /// A request by certificate, as far as its reply is judged by it.
 #[derive(Clone, Copy)]

@@ -4,7 +4,7 @@ use pkinit_messages::AuthPack;
 
 // How an AuthPack with a public value of this type is encoded.
 pub(crate) trait AuthPackTree {
-    ghost use Rattle.asn1_elements.specs.Raw.{Raw};
+    ghost use Rattle.picky_asn1_der.specs.Raw.{Raw};
     ghost use Rattle.asn1_der.specs.Tree.{Tree};
     ghost use Rattle.pkinit_messages.specs.declared.auth_pack.AuthPack.{AuthPack};
 

@@ -2,7 +2,7 @@
 ghost use Rattle.std.specs.Prelude.{◌≡◌};
 ghost use Rattle.pkinit_clients.specs.declared.fault.ReplyFault.TheVariants as reply_fault;
 
-use pkinit_trust::TrustFault;
+use pkinit_validation::TrustFault;
 use std::alloc::AllocError;
 use thiserror::Error;
 

@@ -1,7 +1,7 @@
 //! The means of a client by its certificate.
 ghost use Rattle.std.specs.Prelude.{◌≡◌, ◌⊎◌, IfErr, IfOk};
 ghost use Rattle.std.specs.Option.{option_copied};
-ghost use Rattle.krb_types.specs.RandomBytes.{AreEnoughForRequest};
+ghost use Rattle.krb_messages.specs.RandomBytes.{AreEnoughForRequest};
 ghost use Rattle.krb_client.specs.Refusals.{IsTaken};
 ghost use Rattle.krb_client.specs.Requests.{pa_data_of};
 ghost use Rattle.pkinit_clients.specs.Faults.{IsTakenAs, as_secret};
@@ -12,19 +12,19 @@ use crate::asked::PkinitAsked;
 use crate::fault::ReplyFault;
 use crate::reply::secret_of;
 use crate::request::pk_as_req;
-use key_functions::KeyFunctions;
 use krb_client::{AsAsked, AskRefusal, Client, Means, TakeRefusal, agreement_part};
 use krb_constants::padata_types::{PA_PK_AS_REP, PA_PK_AS_REQ};
 use krb_crypto::Key;
 use krb_crypto::diffie_hellman::agreed_key;
+use krb_messages::data_types::PaData;
 use krb_messages::messages::{KdcRep, KdcReqBody};
 use krb_tickets::first_of;
 use krb_time::Moment;
-use krb_types::data_types::PaData;
 use picky_asn1::wrapper::{IntegerAsn1, OctetStringAsn1};
 use picky_asn1_der::ExplicitContextTag;
-use pkinit_trust::Anchor;
+use pkinit_validation::Anchor;
 use std::alloc::{AllocError, Global};
+use x509_keys::KeyFunctions;
 
 /// The means of a client that authenticates by certificate (RFC 4556, section 3.1): the padata is PA-PK-AS-REQ, and the reply is
 /// encrypted under the key that both agree on.

@@ -10,10 +10,10 @@ use crate::fault::ReplyFault;
 use crate::reading::{read_kdc_dh_key_info, read_pa_pk_as_rep};
 use crate::signer::check_signed;
 use cms_signed_data::{SignedContent, SignedFault};
-use key_functions::{KeyFunctions, Theirs};
 use picky_asn1::is_number;
 use pkinit_messages::{KdcDhKeyInfo, PaPkAsRep};
 use std::alloc::Global;
+use x509_keys::{KeyFunctions, Theirs};
 
 /// The content octets of id-pkinit-DHKeyData, 1.3.6.1.5.2.3.2.
 pub(crate) const DH_KEY_DATA: [u8; 7] = [0x2B, 0x06, 0x01, 0x05, 0x02, 0x03, 0x02];

@@ -4,13 +4,13 @@ ghost use Rattle.pkinit_clients.specs.Requests.{IsNoPkAsReq, IsPkAsReqOf, pk_as_
 
 use crate::auth_pack::auth_pack_bytes;
 use crate::signed::signed_auth_pack;
-use key_functions::KeyFunctions;
 use krb_messages::messages::KdcReqBody;
 use krb_time::Moment;
 use picky_asn1::wrapper::OctetStringAsn1;
 use picky_asn1_der::{ImplicitContextTag, Optional, encoding_of};
 use pkinit_messages::PaPkAsReq;
 use std::alloc::{AllocError, Global};
+use x509_keys::KeyFunctions;
 
 /// The data of the padata PA-PK-AS-REQ for a request with this body, at the moment (RFC 4556, section 3.2.1). The holder of the
 /// certificate signs the client's public value, which is of the 64 random bytes, with the SHA-1 digest of the body.

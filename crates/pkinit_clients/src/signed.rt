@@ -4,8 +4,8 @@ ghost use Rattle.cms_signed_data.specs.Written.{IsNoCertificate, IsWritten, sign
 ghost use Rattle.pkinit_clients.specs.AuthPacks.{auth_data};
 
 use cms_signed_data::{SignedContent, SignedFault};
-use key_functions::KeyFunctions;
 use std::alloc::{AllocError, Global};
+use x509_keys::KeyFunctions;
 
 /// The SignedData over an AuthPack, with the certificate in it. `None` if the certificate's holder doesn't sign, or the bytes are no
 /// certificate.

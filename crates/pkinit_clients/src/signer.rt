@@ -2,15 +2,15 @@
 ghost use Rattle.pkinit_clients.specs.Asked.{asked_of, expected_realm};
 ghost use Rattle.pkinit_clients.specs.Faults.{IsTakenAs};
 ghost use Rattle.pkinit_clients.specs.Replies.{signed_by};
-ghost use Rattle.pkinit_trust.specs.Expected.{expected_of};
+ghost use Rattle.pkinit_validation.specs.Expected.{expected_of};
 
 use crate::asked::PkinitAsked;
 use crate::fault::ReplyFault;
 use cms_signed_data::SignedContent;
-use key_functions::KeyFunctions;
-use krb_types::krbtgt_of;
-use pkinit_trust::{ExpectedSigner, JudgedContent, check_trusted};
+use krb_messages::krbtgt_of;
+use pkinit_validation::{ExpectedSigner, JudgedContent, check_trusted};
 use std::alloc::Global;
+use x509_keys::KeyFunctions;
 
 /// Judges whether the realm's ticket-granting service signed the content.
 pub(crate) fn check_signed<K: KeyFunctions>(

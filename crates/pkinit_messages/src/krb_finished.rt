@@ -3,7 +3,7 @@ ghost use Rattle.asn1_der.specs.Octets.{sequence_octet};
 
 use asn1_der::octets::SEQUENCE;
 use byte_streams::{Sink, Source};
-use krb_types::data_types::Checksum;
+use krb_messages::data_types::Checksum;
 use picky_asn1_der::{
     Asn1DerError, Deserializer, ExplicitContextTag1, Fields, Row1, Serializer, Tagged, fields_of,
     from_fields, read_sequence,

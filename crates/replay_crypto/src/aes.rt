@@ -2,7 +2,7 @@
 
 use crate::row::Vector;
 use crate::sealing::is;
-use aes_cts::{AesSize, decrypt_aes_cbc, decrypt_aes_cts, encrypt_aes_cbc, encrypt_aes_cts};
+use block_ciphers::{AesSize, decrypt_aes_cbc, decrypt_aes_cts, encrypt_aes_cbc, encrypt_aes_cts};
 use std::alloc::Global;
 
 fn size_of(row: &Vector<'_>) -> AesSize {

@@ -1,7 +1,7 @@
 //! Diffie-Hellman agreements.
 
 use crate::row::Vector;
-use diffie_hellman::{Exchange, Group, GroupRefusal, WeakGroup};
+use public_key_cryptography::{Exchange, Group, GroupRefusal, WeakGroup};
 use std::alloc::Global;
 
 pub(crate) fn group_named(name: &str) -> Option<Group> {

@@ -1,10 +1,10 @@
-//! Enciphers and deciphers blocks by the tables of words of aes_cts and by the steps of FIPS 197 byte by byte, under
+//! Enciphers and deciphers blocks by the tables of words of block_ciphers and by the steps of FIPS 197 byte by byte, under
 //! keys that follow from one another, and compares the two.
 
 ghost use Rattle.std.specs.Prelude.{◌≡◌, ◌⊎◌, length};
 
 use crate::plain::{RoundKeys, Substitution};
-use aes_cts::{AesSize, decrypt_aes_cbc, encrypt_aes_cbc};
+use block_ciphers::{AesSize, decrypt_aes_cbc, encrypt_aes_cbc};
 use std::alloc::Global;
 
 const BLOCKS: usize = 1000;

@@ -2,7 +2,7 @@
 
 use crate::row::Vector;
 use crate::sealing::is;
-use krb_profile::{hmac, hmac_sha1, kdf_hmac_sha2, n_fold, pbkdf2_hmac_sha1};
+use encryption_profiles::{hmac, hmac_sha1, kdf_hmac_sha2, n_fold, pbkdf2_hmac_sha1};
 use sha1::Sha1;
 use sha2::{Sha256, Sha384};
 use std::alloc::Global;

@@ -2,8 +2,9 @@
 
 use crate::row::{Vector, vector_of};
 use crate::{agreements, numbers, primes, signatures};
-use replay_rows::{Row, Rows, replay};
 use std::alloc::Global;
+use test_support::rows::replay;
+use test_support::{Row, Rows};
 
 #[derive(Clone, Copy)]
 struct Keys;

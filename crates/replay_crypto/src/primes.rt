@@ -3,7 +3,7 @@
 use crate::numbers;
 use crate::row::Vector;
 use crate::signatures::{hash_of, key_of};
-use rsa_pkcs1::{PrimeNumbers, Primes, PrimesRefusal, PrivateKey};
+use public_key_cryptography::{PrimeNumbers, Primes, PrimesRefusal, PrivateKey};
 use std::alloc::Global;
 
 /// Both primes and the coefficient, which are taken, or refused by name.

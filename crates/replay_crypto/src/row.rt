@@ -1,8 +1,8 @@
 //! Rows `KIND WORD WORD | OCTETS ..`, where a word may be missing.
 
-use replay_rows::Row;
 use std::alloc::Global;
 use std::str::FromStr;
+use test_support::Row;
 
 /// A value of a standard or of another implementation.
 #[derive(Drop)]

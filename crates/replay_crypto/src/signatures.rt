@@ -2,7 +2,7 @@
 
 use crate::numbers;
 use crate::row::Vector;
-use rsa_pkcs1::{HashFunction, KeyRefusal, PrivateKey, PublicKey, PublicNumbers};
+use public_key_cryptography::{HashFunction, KeyRefusal, PrivateKey, PublicKey, PublicNumbers};
 use std::alloc::Global;
 
 pub(crate) fn key_of(modulus: &[u8], exponent: &[u8]) -> Result<PublicKey, KeyRefusal> {

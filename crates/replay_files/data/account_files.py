@@ -2,7 +2,7 @@
 """Writes files of a realm and its accounts (the .cdb files of this folder), and account_files.txt: what is read in them, and what is replied.
 
 This is an independent writer and reader of the records, by their description (the head of specs/AccountRecords and of
-specs/RealmRecords of krb_account_files). Databases are by the independent writer and reader databases.py. Neither
+specs/RealmRecords of krb_realm_files). Databases are by the independent writer and reader databases.py. Neither
 shares code with the program that replays the rows. Keys of passwords are made by Python's `cryptography`, by RFC 3961, RFC 3962 and
 RFC 8009. Requests and replies are those of five_suites.txt of replay_realm, by an independent implementation of RFC 4120's rules. Damages
 are fixed, so each run writes the same files.

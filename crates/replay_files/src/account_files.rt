@@ -7,11 +7,12 @@ mod written;
 use crate::copies::Copies;
 use anyhow::bail;
 use cdb::FileAt;
-use krb_account_files::{AccountFile, NamedAccount};
-use replay_rows::{Row, Rows, replay};
+use krb_realm_files::{AccountFile, NamedAccount};
 use std::alloc::Global;
 use std::fs;
 use std::fs::File;
+use test_support::rows::replay;
+use test_support::{Row, Rows};
 use words::{account_words, name_of, realm_words, reply_words};
 use written::{is_written, named_account};
 

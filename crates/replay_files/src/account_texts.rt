@@ -13,8 +13,9 @@ use krb_account_texts::{
 use krb_accounts::Account;
 use krb_crypto::Key;
 use picky_asn1::wrapper::OctetStringAsn1;
-use replay_rows::{Row, Rows, replay};
 use std::alloc::Global;
+use test_support::rows::replay;
+use test_support::{Row, Rows};
 
 /// Replays the rows on texts of accounts.
 pub(crate) fn replay_account_texts(rt: &HostRuntime) -> anyhow::Result<()> {

@@ -1,7 +1,7 @@
 //! The octets of a file, and a copy of them that rows damage.
 
-use replay_rows::Row;
 use std::alloc::Global;
+use test_support::Row;
 
 /// The octets of a file, and a copy of them.
 #[derive(Drop)]

@@ -7,10 +7,11 @@ use crate::copies::Copies;
 use anyhow::bail;
 use cdb::{FileAt, Record};
 use outcome::{ROOM, is_judged, is_looked_up, is_written};
-use replay_rows::{Row, Rows, replay};
 use std::alloc::Global;
 use std::fs;
 use std::fs::File;
+use test_support::rows::replay;
+use test_support::{Row, Rows};
 
 /// A file that is open, and the records that it is compared with.
 #[derive(Drop)]

@@ -5,8 +5,9 @@
 mod replies;
 
 use anyhow::bail;
-use replay_rows::{Row, Rows, replay};
 use replies::{entry_of, reply_of, text_of};
+use test_support::rows::replay;
+use test_support::{Row, Rows};
 
 /// The path of the realm's file.
 #[derive(Drop)]

@@ -3,8 +3,8 @@
 use crate::stage::Stage;
 use crate::told::{refused, suite_key_text};
 use krb_realm::KeyFunctions;
-use replay_rows::{Row, Told};
 use std::alloc::Global;
+use test_support::{Row, Told};
 
 /// Asks for a service.
 pub(crate) fn as_request<K: KeyFunctions>(

@@ -2,10 +2,9 @@
 
 use crate::stage::Stage;
 use krb_realm::{Moment, NoKeys, Realm, ServeFault, Sink, Source, serve, words_needed};
-use replay_rows::Told;
 use std::alloc::Global;
 use std::iter;
-use test_support::{Drip, Trickle};
+use test_support::{Drip, Told, Trickle};
 
 /// A stream to a realm, at a moment and with random bytes.
 #[derive(Drop)]

@@ -9,11 +9,10 @@ use crate::take::keep_client;
 use crate::words::{holder_of, suite_of};
 use crate::{ask, realms, take};
 use anyhow::{Context, bail};
+use decision_tables::both;
 use krb_realm::{Anchor, Client};
-use replay_rows::{Row, Told};
-use result_pairs::both;
 use std::alloc::Global;
-use test_support::KnownKey;
+use test_support::{KnownKey, Row, Told};
 use x509_codec::to_vec;
 
 /// What the key functions of client and realm go by.

@@ -8,9 +8,10 @@ use krb_realm::{
     Admission, Client, EncryptionKey, GeneralizedTime, LoginRefusal, Moment, Realm, Service,
     components_of_text, is_honest_by_certificate, login_by_certificate,
 };
-use replay_rows::{Row, Rows, Told, replay};
 use rsa_keys::RsaKeys;
 use std::alloc::Global;
+use test_support::rows::replay;
+use test_support::{Row, Rows, Told};
 
 #[derive(Clone, Copy)]
 struct RsaLogins;

@@ -2,12 +2,12 @@
 
 use crate::certified_logins::tell_ended;
 use anyhow::bail;
-use diffie_hellman::Group;
+use decision_tables::if_passed;
 use krb_realm::{Anchor, CipherSuite, Client, Realm, Service, Settings, components_of_text};
-use replay_rows::{Row, Told};
-use result_pairs::if_passed;
+use public_key_cryptography::Group;
 use rsa_keys::{OwnKey, RsaKeyRefusal, RsaKeys};
 use std::alloc::Global;
+use test_support::{Row, Told};
 use x509_codec::from_bytes;
 use x509_keys::{PublicKey, RsaPublicKey, SubjectPublicKeyInfo};
 

@@ -1,10 +1,9 @@
 //! The key functions of a row.
 
 use anyhow::bail;
-use asn1_elements::part_at;
+use decision_tables::both;
 use krb_realm::{Anchor, SignatureAlgorithm};
-use picky_asn1_der::Asn1RawDer;
-use result_pairs::both;
+use picky_asn1_der::{Asn1RawDer, part_at};
 use std::alloc::Global;
 use test_support::{DigestKeys, KnownKey};
 use x509_algorithms::AlgorithmIdentifier;

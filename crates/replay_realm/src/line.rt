@@ -1,6 +1,6 @@
 //! Lines of the scripts: `STEP WORD .. | MESSAGE | WANTED`. The message and the expected text may be missing.
 
-use replay_rows::Row;
+use test_support::Row;
 
 #[derive(Clone, Copy)]
 pub(crate) struct Line<'a> {

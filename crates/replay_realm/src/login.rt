@@ -7,6 +7,7 @@ use crate::certificates::BothKeys;
 use crate::stage::{Conditions, Stage};
 use crate::told::{login_text, refused};
 use anyhow::Context;
+use decision_tables::both;
 use gss_acceptor::{AcceptorTerms, ContextFlags, InitialChecksum};
 use gss_initiator::NO_BINDINGS;
 use gss_logins::is_honest;
@@ -15,9 +16,8 @@ use krb_realm::{
     Service, is_honest_by_certificate, is_honest_by_password, login_by_certificate,
     login_by_password,
 };
-use replay_rows::{Row, Told};
-use result_pairs::both;
 use std::alloc::Global;
+use test_support::{Row, Told};
 
 /// A login by password, or by certificate with these key functions.
 pub(crate) fn login(

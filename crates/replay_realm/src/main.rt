@@ -31,9 +31,10 @@ mod words;
 use krb_realm::{AdmitRefusal, AskRefusal, TakeRefusal};
 use krb_settings_kdc::run_process;
 use line::line_of;
-use replay_rows::{Row, Rows, Told, replay};
 use stage::Stage;
 use std::process::ExitCode;
+use test_support::rows::replay;
+use test_support::{Row, Rows, Told};
 
 fn main(rt: HostRuntime) -> ExitCode {
     match replay_all(&rt) {

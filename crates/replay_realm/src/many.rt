@@ -4,8 +4,8 @@ use crate::stage::Stage;
 use anyhow::bail;
 use krb_messages::messages::KrbError;
 use krb_realm::{AnswerRefusal, NoKeys};
-use replay_rows::Told;
 use std::alloc::Global;
+use test_support::Told;
 
 /// How many requests were unreadable, and how many got each error code.
 #[derive(Clone, Copy)]

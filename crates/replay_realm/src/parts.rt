@@ -5,8 +5,8 @@ use anyhow::{Context, bail};
 use krb_crypto::{Cipher, CipherSuite};
 use krb_messages::messages::KrbError;
 use picky_asn1_der::{Serialize, to_bytes};
-use replay_rows::{Row, Told};
 use std::alloc::Global;
+use test_support::{Row, Told};
 
 const AES256: CipherSuite = CipherSuite::Aes256CtsHmacSha196;
 

@@ -11,8 +11,8 @@ use krb_realm::{
     Anchor, CipherSuite, KeyFunctions, NoKeys, Realm, RealmRefusal, Settings, serve_bytes,
     words_needed,
 };
-use replay_rows::{Row, Told, components_of};
 use std::alloc::Global;
+use test_support::{Row, Told, components_of};
 
 const AES256: CipherSuite = CipherSuite::Aes256CtsHmacSha196;
 

@@ -5,8 +5,8 @@ use crate::told::{admission_text, admitted_times, refused};
 use crate::words::suite_of;
 use anyhow::{Context, bail};
 use krb_realm::{Admission, AdmitRefusal, Moment, Service};
-use replay_rows::{Row, Told, components_of};
 use std::alloc::Global;
+use test_support::{Row, Told, components_of};
 
 /// Makes the service `h`, of this realm, suite, key, kvno and skew.
 pub(crate) fn service(

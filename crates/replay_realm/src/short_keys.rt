@@ -2,9 +2,8 @@
 
 use krb_realm::{KeyFunctions, Signed, Theirs};
 use picky_asn1_der::Asn1RawDer;
-use replay_rows::Row;
 use std::alloc::{AllocError, Global};
-use test_support::DigestKeys;
+use test_support::{DigestKeys, Row};
 use x509_algorithms::AlgorithmIdentifier;
 use x509_keys::SubjectPublicKeyInfo;
 

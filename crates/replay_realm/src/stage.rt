@@ -5,12 +5,12 @@ use crate::line::Line;
 use crate::words::{second_of, start};
 use crate::{ask, broken, login, many, parts, realms, services, take};
 use anyhow::{Context, bail};
+use decision_tables::both;
 use krb_realm::{
     ApAsked, AsAsked, Client, Credential, GeneralizedTime, Moment, NoKeys, Realm, Service, TgsAsked,
 };
-use replay_rows::{Row, Told};
-use result_pairs::both;
 use std::alloc::Global;
+use test_support::{Row, Told};
 
 /// What a step goes by: the moment, the end that is asked for, and the random bytes.
 #[derive(Clone, Copy)]

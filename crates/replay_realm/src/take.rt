@@ -5,8 +5,8 @@ use crate::told::{done, name_text, refused, suite_key_text, times_text};
 use crate::words::suite_of;
 use anyhow::Context;
 use krb_realm::{AskRefusal, Client, Credential, KeyFunctions, TakeRefusal};
-use replay_rows::{Row, Told};
 use std::alloc::Global;
+use test_support::{Row, Told};
 
 /// Makes a client of this realm, name, suite and password.
 pub(crate) fn client(stage: &mut Stage, alloc: Global, words: &mut Row<'_>, told: &mut Told) {

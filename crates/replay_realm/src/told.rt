@@ -1,8 +1,8 @@
 //! Texts of what calls give.
 
 use krb_realm::{Admission, CipherSuite, EncryptionKey, GeneralizedTime, PrincipalName};
-use replay_rows::Told;
 use std::fmt::Debug;
+use test_support::Told;
 
 pub(crate) fn refused<E: Debug>(told: &mut Told, refusal: &E) {
     told.put("refused: ");

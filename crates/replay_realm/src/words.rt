@@ -2,8 +2,8 @@
 
 use anyhow::{Context, bail};
 use krb_realm::{Anchor, CipherSuite, GeneralizedTime, Moment};
-use replay_rows::Row;
 use std::alloc::Global;
+use test_support::Row;
 
 /// The microseconds from the first second of the year 0000 to that of 2000.
 const YEAR_2000: i64 = 63_113_904_000_000_000;

@@ -10,9 +10,10 @@ use call::{Call, call_of};
 use gss_acceptor::{Acceptor, Negotiation};
 use gss_contexts::{Context, Protection};
 use gss_initiator::Pending;
-use replay_rows::{Row, Rows, replay};
 use std::alloc::Global;
 use std::fmt::Debug;
+use test_support::rows::replay;
+use test_support::{Row, Rows};
 
 /// What tokens.py, first_tokens.py and initiators.py write, and what MIT's library wraps and signs.
 const FILES: [&str; 4] = [

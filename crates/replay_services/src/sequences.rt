@@ -6,14 +6,13 @@
 use anyhow::{Context, bail};
 use krb_ap_requests::AdmitRefusal;
 use krb_crypto::CipherSuite;
-use krb_keytab_services::KeytabService;
-use krb_keytabs::Keytab;
-use krb_service::{Admission, Service};
+use krb_file_formats::Keytab;
+use krb_service::{Admission, KeytabService, Service};
 use krb_time::Moment;
-use replay_rows::{Row, Told};
 use std::alloc::Global;
 use std::fs;
 use std::mem::replace;
+use test_support::{Row, Told};
 
 /// The random bytes of each call. The recorded replies have a confounder of zeros.
 const WORDS: [u8; 16] = [0; 16];

@@ -1,3 +1,7 @@
+pub mod Elements
+pub mod Found
+pub mod Groups
+mod Signs
 pub mod Shared
 mod Usable
 mod Values

@@ -6,17 +6,17 @@ use Rattle.std.proofs.lemmas.Int.Digits.{number_digits_of}
 use Rattle.std.proofs.lemmas.List.{length-append}
 use Rattle.std.specs.Int.Digits.{digits_of}
 use Rattle.std.specs.Option.{option_and_then}
-use Rattle.asn1_elements.specs.Raw.{Raw}
-use Rattle.asn1_elements.specs.Splits.{raw_bytes}
+use Rattle.picky_asn1_der.specs.Raw.{Raw}
+use Rattle.picky_asn1_der.specs.Splits.{raw_bytes}
 use Rattle.picky_asn1.specs.Bytes.{Bytes}
 use Rattle.picky_asn1.specs.Integer.{unsigned_octets}
 use Rattle.modular_arithmetic.specs.Naturals.{i2osp, os2ip}
-use Rattle.diffie_hellman.specs.Agreements.{in_range, prime_of, public_of, shared_of, size_of}
-use Rattle.diffie_hellman.specs.declared.group.Group.{Group}
-use Rattle.x509_dh_keys.specs.Numbers.{value_number}
-use Rattle.x509_dh_keys.specs.Values.{is_value, value_bytes, value_element}
-use Rattle.x509_dh_keys.proofs.Found.{bits-number, number-is, value-number}
-use Rattle.key_functions.specs.KeyFunctions.TheirValue.{WholeValue}
+use Rattle.public_key_cryptography.specs.Agreements.{in_range, prime_of, public_of, shared_of, size_of}
+use Rattle.public_key_cryptography.specs.declared.group.Group.{Group}
+use Rattle.rsa_keys.specs.Numbers.{value_number}
+use Rattle.rsa_keys.specs.Values.{is_value, value_bytes, value_element}
+use Rattle.rsa_keys.proofs.Found.{bits-number, number-is, value-number}
+use Rattle.x509_keys.specs.KeyFunctions.TheirValue.{WholeValue}
 use Rattle.rsa_keys.specs.Agreements.{IsAgreed, IsOfGroup, agreed, own_bits, own_number, own_value}
 
 length-i2osp : (len n : ℕ) → length (i2osp len n) ≡ len

@@ -4,9 +4,9 @@ use Rattle.std.specs.Option.{is_none, option_map}
 use Rattle.picky_asn1.specs.Integer.{unsigned_octets}
 use Rattle.x509_keys.specs.declared.rsa_public_key.RsaPublicKey.{RsaPublicKey}
 use Rattle.modular_arithmetic.specs.Naturals.{os2ip}
-use Rattle.rsa_pkcs1.specs.Keys.{refusal_of}
-use Rattle.rsa_pkcs1.specs.Pkcs1.{IsKeyOf}
-use Rattle.rsa_pkcs1.specs.declared.public_key.PublicKey.{PublicKey}
+use Rattle.public_key_cryptography.specs.Keys.{refusal_of}
+use Rattle.public_key_cryptography.specs.Pkcs1.{IsKeyOf}
+use Rattle.public_key_cryptography.specs.declared.public_key.PublicKey.{PublicKey}
 use Rattle.rsa_keys.specs.OwnKeys.{IsUsable, has_naturals, key_refusal, refusal_in}
 use Rattle.rsa_keys.specs.Signatures.{Numbers, numbers_of, refusal_named}
 use Rattle.rsa_keys.specs.declared.refusal.RsaKeyRefusal.{RsaKeyRefusal}

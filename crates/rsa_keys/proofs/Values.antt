@@ -4,27 +4,27 @@ use Rattle.std.proofs.lemmas.Bool.{false≢true}
 use Rattle.std.specs.Option.{option_and_then}
 use Rattle.asn1_der.specs.Octets.{integer_octet, sequence_octet}
 use Rattle.asn1_der.proofs.Elements.{element-content}
-use Rattle.asn1_elements.specs.Raw.{Raw}
-use Rattle.asn1_elements.specs.Splits.{raw_bytes}
+use Rattle.picky_asn1_der.specs.Raw.{Raw}
+use Rattle.picky_asn1_der.specs.Splits.{raw_bytes}
 use Rattle.picky_asn1.specs.BitString.{Bits}
 use Rattle.picky_asn1.specs.Bytes.{Bytes}
 use Rattle.picky_asn1.specs.Integer.{unsigned_octets}
 use Rattle.picky_asn1.specs.IntegerLaws.{integer_content-injective}
 use Rattle.modular_arithmetic.specs.Naturals.{i2osp, os2ip}
-use Rattle.diffie_hellman.specs.Agreements.{in_range, prime_of, shared_of, size_of}
-use Rattle.diffie_hellman.specs.declared.group.Group.{Group}
-use Rattle.diffie_hellman.specs.declared.group.WeakGroup.TheVariants.{Taken}
-use Rattle.x509_dh_keys.specs.Algorithms.{algorithm_content, integer_bytes}
-use Rattle.x509_dh_keys.specs.Numbers.{bits_number, number_in, value_number}
-use Rattle.x509_dh_keys.specs.Reading.{Reads, ReadsBits}
-use Rattle.x509_dh_keys.specs.Values.{is_value, value_bytes, value_element}
-use Rattle.x509_dh_keys.specs.declared.fault.DhFault.{DhFault}
-use Rattle.x509_dh_keys.specs.declared.fault.DhFault.TheVariants.{Memory, Unreadable, UnknownGroup, GroupTooWeak, OutOfRange}
-use Rattle.x509_dh_keys.specs.declared.public_value.DhPublicValue.{DhPublicValue}
-use Rattle.x509_dh_keys.proofs.Found.{bits-none, bits-number, number-is, number-none, value-number}
-use Rattle.x509_dh_keys.proofs.Groups.{same_value}
-use Rattle.key_functions.specs.KeyFunctions.{TheirValue}
-use Rattle.key_functions.specs.KeyFunctions.TheirValue.{ValueBits, WholeValue}
+use Rattle.public_key_cryptography.specs.Agreements.{in_range, prime_of, shared_of, size_of}
+use Rattle.public_key_cryptography.specs.declared.group.Group.{Group}
+use Rattle.public_key_cryptography.specs.declared.group.WeakGroup.TheVariants.{Taken}
+use Rattle.rsa_keys.specs.Algorithms.{algorithm_content, integer_bytes}
+use Rattle.rsa_keys.specs.Numbers.{bits_number, number_in, value_number}
+use Rattle.rsa_keys.specs.Reading.{Reads, ReadsBits}
+use Rattle.rsa_keys.specs.Values.{is_value, value_bytes, value_element}
+use Rattle.rsa_keys.specs.declared.fault.DhFault.{DhFault}
+use Rattle.rsa_keys.specs.declared.fault.DhFault.TheVariants.{Memory, Unreadable, UnknownGroup, GroupTooWeak, OutOfRange}
+use Rattle.rsa_keys.specs.declared.public_value.DhPublicValue.{DhPublicValue}
+use Rattle.rsa_keys.proofs.Found.{bits-none, bits-number, number-is, number-none, value-number}
+use Rattle.rsa_keys.proofs.Groups.{same_value}
+use Rattle.x509_keys.specs.KeyFunctions.{TheirValue}
+use Rattle.x509_keys.specs.KeyFunctions.TheirValue.{ValueBits, WholeValue}
 use Rattle.rsa_keys.specs.Agreements.{IsRefused, IsTheirs, agreed, own_number, own_value, their_number}
 
 -- a public value's number isn't negative

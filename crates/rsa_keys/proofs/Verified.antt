@@ -7,20 +7,20 @@ use Rattle.asn1_leaves.specs.ObjectIdentifier.{oid_content}
 use Rattle.picky_asn1.specs.Bytes.{Bytes}
 use Rattle.picky_asn1.specs.Integer.{unsigned_octets}
 use Rattle.x509_oids.specs.Identifiers as oids
-use Rattle.x509_parameters.specs.Arcs.{octet_behind}
+use Rattle.x509_algorithms.specs.Arcs.{octet_behind}
 use Rattle.x509_algorithms.specs.AlgorithmClasses.{pkcs1}
 use Rattle.x509_keys.specs.declared.subject_public_key_info.SubjectPublicKeyInfo.{SubjectPublicKeyInfo}
 use Rattle.modular_arithmetic.specs.Naturals.{i2osp, os2ip}
 use Rattle.modular_arithmetic.specs.Moduli.{value_of}
-use Rattle.rsa_pkcs1.specs.Keys.{refusal_of}
-use Rattle.rsa_pkcs1.specs.Pkcs1.{IsKeyOf, encoded, signature_of, verifies}
-use Rattle.rsa_pkcs1.specs.declared.hash.HashFunction.{HashFunction}
-use Rattle.rsa_pkcs1.specs.declared.hash.HashFunction.TheVariants.{Sha256}
-use Rattle.rsa_pkcs1.specs.declared.public_key.KeyRefusal.{KeyRefusal}
-use Rattle.rsa_pkcs1.specs.declared.public_key.PublicKey.{PublicKey}
-use Rattle.key_functions.specs.SignedBy.{signed_by}
-use Rattle.key_functions.specs.declared.functions.Signed.{Signed}
-use Rattle.key_functions.specs.declared.signature_algorithm.SignatureAlgorithm.{SignatureAlgorithm}
+use Rattle.public_key_cryptography.specs.Keys.{refusal_of}
+use Rattle.public_key_cryptography.specs.Pkcs1.{IsKeyOf, encoded, signature_of, verifies}
+use Rattle.public_key_cryptography.specs.declared.hash.HashFunction.{HashFunction}
+use Rattle.public_key_cryptography.specs.declared.hash.HashFunction.TheVariants.{Sha256}
+use Rattle.public_key_cryptography.specs.declared.public_key.KeyRefusal.{KeyRefusal}
+use Rattle.public_key_cryptography.specs.declared.public_key.PublicKey.{PublicKey}
+use Rattle.x509_keys.specs.SignedBy.{signed_by}
+use Rattle.x509_keys.specs.declared.functions.Signed.{Signed}
+use Rattle.x509_keys.specs.declared.signature_algorithm.SignatureAlgorithm.{SignatureAlgorithm}
 use Rattle.rsa_keys.specs.Functions.{IsPublicPart, signed_by_own}
 use Rattle.rsa_keys.specs.Signatures.{Numbers, by_hash, by_key, by_numbers, by_refusal, checked, hash_behind, hash_of, is_valid, refusal_named, sha256_named, verdict}
 use Rattle.rsa_keys.specs.declared.refusal.SignatureRefusal.TheVariants.{Key}

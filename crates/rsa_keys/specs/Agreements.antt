@@ -1,20 +1,20 @@
 -- Agreements on a secret (RFC 4556, sections 3.2.1 and 3.2.3.1).
 use Rattle.std.specs.Prelude.{◌≡◌, ℕ, ℤ, pos, Option, Some, None, if◌then◌else◌}
 use Rattle.std.specs.Option.{option_and_then}
-use Rattle.asn1_elements.specs.Raw.{Raw}
-use Rattle.asn1_elements.specs.Splits.{raw_bytes}
+use Rattle.picky_asn1_der.specs.Raw.{Raw}
+use Rattle.picky_asn1_der.specs.Splits.{raw_bytes}
 use Rattle.picky_asn1.specs.BitString.{Bits}
 use Rattle.picky_asn1.specs.Bytes.{Bytes}
 use Rattle.picky_asn1.specs.Integer.{unsigned_octets}
 use Rattle.modular_arithmetic.specs.Naturals.{os2ip}
-use Rattle.diffie_hellman.specs.Agreements.{public_of, shared_of}
-use Rattle.diffie_hellman.specs.declared.group.Group.{Group}
-use Rattle.x509_dh_keys.specs.Algorithms.{integer_bytes}
-use Rattle.x509_dh_keys.specs.Numbers.{bits_number, value_number}
-use Rattle.x509_dh_keys.specs.Values.{is_value, value_bytes, value_element}
-use Rattle.x509_dh_keys.specs.declared.public_value.DhPublicValue.{DhPublicValue}
-use Rattle.key_functions.specs.KeyFunctions.{TheirValue}
-use Rattle.key_functions.specs.KeyFunctions.TheirValue.{ValueBits, WholeValue}
+use Rattle.public_key_cryptography.specs.Agreements.{public_of, shared_of}
+use Rattle.public_key_cryptography.specs.declared.group.Group.{Group}
+use Rattle.rsa_keys.specs.Algorithms.{integer_bytes}
+use Rattle.rsa_keys.specs.Numbers.{bits_number, value_number}
+use Rattle.rsa_keys.specs.Values.{is_value, value_bytes, value_element}
+use Rattle.rsa_keys.specs.declared.public_value.DhPublicValue.{DhPublicValue}
+use Rattle.x509_keys.specs.KeyFunctions.{TheirValue}
+use Rattle.x509_keys.specs.KeyFunctions.TheirValue.{ValueBits, WholeValue}
 
 -- the number of a peer's value, if it is one of this group
 abbrev pub their_number : Group → TheirValue → Option ℕ

@@ -4,14 +4,14 @@ use Rattle.std.specs.Option.{option_map}
 use Rattle.picky_asn1.specs.Bytes.{Bytes}
 use Rattle.x509_keys.specs.declared.public_key.PublicKey.TheVariants.{Rsa}
 use Rattle.x509_keys.specs.declared.subject_public_key_info.SubjectPublicKeyInfo.{SubjectPublicKeyInfo}
-use Rattle.diffie_hellman.specs.declared.group.Group.{Group}
-use Rattle.rsa_pkcs1.specs.Pkcs1.{signed}
-use Rattle.rsa_pkcs1.specs.declared.hash.HashFunction.TheVariants.{Sha256}
-use Rattle.key_functions.specs.Encodings.{HasEncoding}
-use Rattle.key_functions.specs.KeyFunctions.{KeysRecord, encodes_none}
-use Rattle.key_functions.specs.SignedBy.{encodes_by, signed_by}
-use Rattle.key_functions.specs.declared.functions.Signed.{Signed}
-use Rattle.key_functions.specs.declared.signature_algorithm.SignatureAlgorithm.{SignatureAlgorithm}
+use Rattle.public_key_cryptography.specs.declared.group.Group.{Group}
+use Rattle.public_key_cryptography.specs.Pkcs1.{signed}
+use Rattle.public_key_cryptography.specs.declared.hash.HashFunction.TheVariants.{Sha256}
+use Rattle.x509_keys.specs.Encodings.{HasEncoding}
+use Rattle.x509_keys.specs.KeyFunctions.{KeysRecord, encodes_none}
+use Rattle.x509_keys.specs.SignedBy.{encodes_by, signed_by}
+use Rattle.x509_keys.specs.declared.functions.Signed.{Signed}
+use Rattle.x509_keys.specs.declared.signature_algorithm.SignatureAlgorithm.{SignatureAlgorithm}
 use Rattle.rsa_keys.specs.Agreements.{agreed, own_value}
 use Rattle.rsa_keys.specs.Signatures.{checked}
 use Rattle.rsa_keys.specs.declared.own_key.OwnKey.{OwnKey}

@@ -1,3 +1,8 @@
+pub mod Algorithms
+pub mod Faults
+pub mod Numbers
+pub mod Reading
+pub mod Values
 pub mod Agreements
 pub mod Functions
 pub mod OwnKeys

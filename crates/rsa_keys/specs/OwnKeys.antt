@@ -5,12 +5,12 @@ use Rattle.std.specs.Str.{bytes_eq}
 use Rattle.picky_asn1.specs.Integer.{unsigned_octets}
 use Rattle.x509_oids.specs.Identifiers as oids
 use Rattle.x509_keys.specs.declared.rsa_public_key.RsaPublicKey.{RsaPublicKey}
-use Rattle.key_functions.specs.declared.signature_algorithm.SignatureAlgorithm.{SignatureAlgorithm}
+use Rattle.x509_keys.specs.declared.signature_algorithm.SignatureAlgorithm.{SignatureAlgorithm}
 use Rattle.modular_arithmetic.specs.Moduli.{value_of}
 use Rattle.modular_arithmetic.specs.Naturals.{os2ip}
-use Rattle.rsa_pkcs1.specs.Keys.{refusal_of}
-use Rattle.rsa_pkcs1.specs.declared.public_key.PublicKey as arithmetic
-use Rattle.x509_dh_keys.specs.Values.{is_natural}
+use Rattle.public_key_cryptography.specs.Keys.{refusal_of}
+use Rattle.public_key_cryptography.specs.declared.public_key.PublicKey as arithmetic
+use Rattle.rsa_keys.specs.Values.{is_natural}
 use Rattle.rsa_keys.specs.Signatures.{Numbers, numbers_of, refusal_named}
 use Rattle.rsa_keys.specs.declared.refusal.RsaKeyRefusal.{RsaKeyRefusal}
 

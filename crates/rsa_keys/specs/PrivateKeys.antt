@@ -2,7 +2,7 @@
 use Rattle.std.specs.Prelude.{◌≡◌}
 use Rattle.picky_asn1.specs.Integer.{unsigned_octets}
 use Rattle.x509_keys.specs.declared.rsa_public_key.RsaPublicKey.{RsaPublicKey}
-use Rattle.x509_private_keys.specs.declared.rsa_private_key.RsaPrivateKey.{RsaPrivateKey}
+use Rattle.x509_keys.specs.declared.rsa_private_key.RsaPrivateKey.{RsaPrivateKey}
 use Rattle.rsa_keys.specs.declared.own_key.OwnKey.{OwnKey}
 
 -- the public part of a private key (RFC 8017, section 3.2)

@@ -5,7 +5,7 @@ use Rattle.asn1_leaves.specs.ObjectIdentifier.{oid_content, subidentifier}
 use Rattle.picky_asn1.specs.Bytes.{Bytes}
 use Rattle.picky_asn1.specs.Integer.{unsigned_octets}
 use Rattle.x509_oids.specs.Identifiers as oids
-use Rattle.x509_parameters.specs.Arcs.{octet_behind}
+use Rattle.x509_algorithms.specs.Arcs.{octet_behind}
 use Rattle.x509_algorithms.specs.AlgorithmClasses.{pkcs1}
 use Rattle.x509_algorithms.specs.declared.algorithm_identifier.AlgorithmIdentifier.{AlgorithmIdentifier}
 use Rattle.x509_keys.specs.declared.public_key.PublicKey.{PublicKey}
@@ -15,13 +15,13 @@ use Rattle.x509_keys.specs.declared.subject_public_key_info.SubjectPublicKeyInfo
 use Rattle.modular_arithmetic.specs.Naturals.{i2osp, os2ip}
 use Rattle.modular_arithmetic.specs.declared.modulus.ModulusRefusal.{ModulusRefusal}
 use Rattle.modular_arithmetic.specs.declared.modulus.ModulusRefusal.TheVariants as modulus
-use Rattle.rsa_pkcs1.specs.Keys.{refusal_of}
-use Rattle.rsa_pkcs1.specs.Pkcs1.{encoded}
-use Rattle.rsa_pkcs1.specs.declared.hash.HashFunction.{HashFunction}
-use Rattle.rsa_pkcs1.specs.declared.hash.HashFunction.TheVariants.{Sha256, Sha384, Sha512}
-use Rattle.rsa_pkcs1.specs.declared.public_key.KeyRefusal.{KeyRefusal}
-use Rattle.rsa_pkcs1.specs.declared.public_key.KeyRefusal.TheVariants as by
-use Rattle.x509_dh_keys.specs.Values.{is_natural}
+use Rattle.public_key_cryptography.specs.Keys.{refusal_of}
+use Rattle.public_key_cryptography.specs.Pkcs1.{encoded}
+use Rattle.public_key_cryptography.specs.declared.hash.HashFunction.{HashFunction}
+use Rattle.public_key_cryptography.specs.declared.hash.HashFunction.TheVariants.{Sha256, Sha384, Sha512}
+use Rattle.public_key_cryptography.specs.declared.public_key.KeyRefusal.{KeyRefusal}
+use Rattle.public_key_cryptography.specs.declared.public_key.KeyRefusal.TheVariants as by
+use Rattle.rsa_keys.specs.Values.{is_natural}
 use Rattle.rsa_keys.specs.declared.refusal.RsaKeyRefusal.{RsaKeyRefusal}
 use Rattle.rsa_keys.specs.declared.refusal.RsaKeyRefusal.TheVariants.{NotRsa, NegativeNumber, KeyTooWeak, ModulusTooLong, EvenModulus, ExponentTooSmall, ExponentTooLong, ZeroInFront}
 use Rattle.rsa_keys.specs.declared.refusal.SignatureRefusal.{SignatureRefusal}

@@ -1,19 +1,19 @@
 //! Agreements on a secret (RFC 4556, sections 3.2.1 and 3.2.3.1).
 ghost use Rattle.std.specs.Prelude.{◌≡◌, ◌≢◌, IfOk, MatchOption, None, Some};
 ghost use Rattle.std.specs.Option.{option_map};
-ghost use Rattle.key_functions.specs.KeyFunctions.{theirs_of};
-ghost use Rattle.key_functions.specs.KeyFunctions.TheirValue.{ValueBits, WholeValue};
+ghost use Rattle.x509_keys.specs.KeyFunctions.{theirs_of};
+ghost use Rattle.x509_keys.specs.KeyFunctions.TheirValue.{ValueBits, WholeValue};
 ghost use Rattle.picky_asn1.specs.Integer.{unsigned_octets};
-ghost use Rattle.diffie_hellman.specs.Agreements.{shared_of};
-ghost use Rattle.x509_dh_keys.specs.Values.{value_element};
+ghost use Rattle.public_key_cryptography.specs.Agreements.{shared_of};
+ghost use Rattle.rsa_keys.specs.Values.{value_element};
 ghost use Rattle.rsa_keys.specs.Agreements.{IsRefused, IsTheirs, agreed, own_value};
 
-use diffie_hellman::{Exchange, Group, WeakGroup};
-use key_functions::Theirs;
+use crate::{DhFault, DhPublicValue};
 use picky_asn1::wrapper::BitStringAsn1;
 use picky_asn1_der::Asn1RawDer;
+use public_key_cryptography::{Exchange, Group, WeakGroup};
 use std::alloc::{AllocError, Global};
-use x509_dh_keys::{DhFault, DhPublicValue};
+use x509_keys::Theirs;
 
 /// The SubjectPublicKeyInfo of the public value of a secret number. `None` if that is 0, 1 or the prime less 1.
 pub(crate) fn own_value(

@@ -1,16 +1,16 @@
 //! What holds of all keys. Each is a function that does nothing when it runs: its contract is the law.
 ghost use Rattle.std.specs.Prelude.{◌≡◌, Ok, Some};
-ghost use Rattle.asn1_elements.specs.Raw.{Raw};
+ghost use Rattle.picky_asn1_der.specs.Raw.{Raw};
 ghost use Rattle.picky_asn1.specs.Bytes.{Bytes};
-ghost use Rattle.key_functions.specs.declared.functions.Signed.{Signed};
+ghost use Rattle.x509_keys.specs.declared.functions.Signed.{Signed};
 ghost use Rattle.x509_keys.specs.declared.subject_public_key_info.SubjectPublicKeyInfo.{SubjectPublicKeyInfo};
-ghost use Rattle.key_functions.specs.KeyFunctions.TheirValue.{WholeValue};
+ghost use Rattle.x509_keys.specs.KeyFunctions.TheirValue.{WholeValue};
 ghost use Rattle.rsa_keys.specs.Agreements.{IsAgreed, IsOfGroup, agreed, own_value};
 ghost use Rattle.rsa_keys.specs.Functions.{IsPublicPart, signed_by_own};
 ghost use Rattle.rsa_keys.specs.Signatures.{checked};
 
 use crate::own_key::OwnKey;
-use diffie_hellman::Group;
+use public_key_cryptography::Group;
 
 /// Each signature that a key makes is valid under its public key, whether the key is a pair or not.
 pub fn signed_is_verified(own: &OwnKey)
@@ -26,7 +26,7 @@ pub fn one_secret(group: Group)
     ensures { (ours theirs : Bytes) (our_value their_value : Raw)
         → own_value group ours ≡ Some our_value → own_value group theirs ≡ Some their_value → IsAgreed group ours theirs their_value }
 {
-    diffie_hellman::agree(group);
+    public_key_cryptography::agree(group);
 }
 
 /// Who comes to a secret by a peer's whole value has an own value of the same group, as a KDC that replies to a client (RFC 4556, section

@@ -4,21 +4,19 @@ ghost use Rattle.std.specs.Option.{option_map};
 ghost use Rattle.picky_asn1.specs.Integer.{unsigned_octets};
 ghost use Rattle.modular_arithmetic.specs.Moduli.{value_of};
 ghost use Rattle.modular_arithmetic.specs.Naturals.{os2ip};
-ghost use Rattle.rsa_pkcs1.specs.Keys.{refusal_of};
-ghost use Rattle.rsa_pkcs1.specs.Pkcs1.{IsKeyOf};
-ghost use Rattle.rsa_pkcs1.specs.Primes.{fits};
+ghost use Rattle.public_key_cryptography.specs.Keys.{refusal_of};
+ghost use Rattle.public_key_cryptography.specs.Pkcs1.{IsKeyOf};
+ghost use Rattle.public_key_cryptography.specs.Primes.{fits};
 ghost use Rattle.rsa_keys.specs.OwnKeys.{IsUsable, has_naturals, is_sha256, is_taken, key_refusal};
 ghost use Rattle.rsa_keys.specs.Signatures.{refusal_named};
 
 use crate::refusal::RsaKeyRefusal;
 use crate::signature::{numbers_of, refusal_named};
-use key_functions::SignatureAlgorithm;
 use picky_asn1::wrapper::IntegerAsn1;
-use rsa_pkcs1::{PrimeNumbers, Primes, PrivateKey, PublicKey, PublicNumbers};
+use public_key_cryptography::{PrimeNumbers, Primes, PrivateKey, PublicKey, PublicNumbers};
 use std::alloc::{AllocError, Global};
 use x509_algorithms::AlgorithmIdentifier;
-use x509_keys::RsaPublicKey;
-use x509_private_keys::RsaPrivateKey;
+use x509_keys::{RsaPrivateKey, RsaPublicKey, SignatureAlgorithm};
 
 /// A private key of RSA with its public key, and the algorithm that its signatures name: sha256WithRSAEncryption.
 #[derive(Drop)]

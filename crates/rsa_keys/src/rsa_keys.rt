@@ -6,14 +6,12 @@ ghost use Rattle.rsa_keys.specs.Functions.{signed_by_own};
 use crate::agreement::{agreed, own_value};
 use crate::own_key::OwnKey;
 use crate::signature::check_signature;
-use diffie_hellman::Group;
-use key_functions::{KeyFunctions, Signed, Theirs};
 use picky_asn1::wrapper::OctetStringAsn1;
 use picky_asn1_der::Asn1RawDer;
-use rsa_pkcs1::HashFunction;
+use public_key_cryptography::{Group, HashFunction};
 use std::alloc::{AllocError, Global};
 use x509_algorithms::AlgorithmIdentifier;
-use x509_keys::SubjectPublicKeyInfo;
+use x509_keys::{KeyFunctions, Signed, SubjectPublicKeyInfo, Theirs};
 
 /// A party that verifies signatures of RSA, and makes them if it has a key of its own. It agrees on secrets in one group: a peer's value
 /// of another group is refused.

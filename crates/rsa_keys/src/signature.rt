@@ -2,13 +2,12 @@
 ghost use Rattle.std.specs.Prelude.{◌≡◌, Ok, Err, MatchResult};
 ghost use Rattle.rsa_keys.specs.Signatures.{by_hash, by_numbers, checked, hash_named, hash_of, modulus_named, numbers_in, numbers_of, refusal_named, verdict};
 
+use crate::is_natural;
 use crate::refusal::{RsaKeyRefusal, SignatureRefusal};
 use modular_arithmetic::ModulusRefusal;
-use rsa_pkcs1::{HashFunction, KeyRefusal, PublicNumbers};
-use x509_algorithms::AlgorithmIdentifier;
-use x509_dh_keys::is_natural;
+use public_key_cryptography::{HashFunction, KeyRefusal, PublicNumbers};
+use x509_algorithms::{AlgorithmIdentifier, octet_behind};
 use x509_keys::{PublicKey, RsaPublicKey, SubjectPublicKeyInfo};
-use x509_parameters::octet_behind;
 
 /// Whether a signature by this algorithm is valid for the bytes under the key (RFC 8017, section 8.2.2), and if not, why. The first
 /// refusal that holds counts, in the order of [`SignatureRefusal`].
@@ -51,7 +50,7 @@ fn check_by_numbers(
 ) -> Result<(), SignatureRefusal>
     ensures { result ≡ by_numbers hash (numbers.now.modulus.now, numbers.now.exponent.now) signed.now signature.now }
 {
-    match rsa_pkcs1::PublicKey::new(numbers) {
+    match public_key_cryptography::PublicKey::new(numbers) {
         Ok(key) => verdict(key.verifies(hash, signed, signature)),
         Err(refusal) => Err(SignatureRefusal::Key(refusal_named(refusal))),
     }

@@ -3,7 +3,7 @@ use crate::written::{fault_of, is_written};
 use picky_asn1::wrapper::{BitStringAsn1, OctetStringAsn1, OctetStringAsn1Container};
 use std::alloc::Global;
 use x509_algorithms::AlgorithmIdentifier;
-use x509_private_keys::{PrivateKeyInfo, PrivateKeyValue};
+use x509_keys::{PrivateKeyInfo, PrivateKeyValue};
 use x509_spelling::X509Fault;
 
 const WITH_CURVE: &[u8] =

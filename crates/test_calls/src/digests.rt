@@ -1,8 +1,8 @@
 //! Usages, sizes, and chains whose last blocks are exchanged.
 
 use crate::sealing::is;
-use aes_cts::{AesSize, KerberosCryptoResult, encrypt_aes_cbc, swap_two_last_blocks};
-use krb_profile::{usage_kc, usage_ke, usage_ki};
+use block_ciphers::{AesSize, KerberosCryptoResult, encrypt_aes_cbc, swap_two_last_blocks};
+use encryption_profiles::{usage_kc, usage_ke, usage_ki};
 use std::alloc::Global;
 
 // RFC 3961, section 5.3: the well-known constants AA, 99 and 55 behind the number.

@@ -1,6 +1,6 @@
 //! Names of text. Each row is answered the same by `krb5_parse_name` of MIT krb5 1.20.1, whose faults have one code.
 
-use krb_types::{NameTextFault, components_of_text, principal_of_text};
+use krb_messages::{NameTextFault, components_of_text, principal_of_text};
 use std::alloc::Global;
 
 fn are(name: &[Vec<u8>], wanted: &[&[u8]]) -> bool {

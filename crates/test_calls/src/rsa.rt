@@ -2,8 +2,7 @@
 use crate::written::is_written;
 use picky_asn1::wrapper::IntegerAsn1;
 use std::alloc::Global;
-use x509_keys::SubjectPublicKeyInfo;
-use x509_private_keys::PrivateKeyInfo;
+use x509_keys::{PrivateKeyInfo, SubjectPublicKeyInfo};
 
 const PUBLIC: &[u8] =
     b"\x30\x1A\x30\x0D\x06\x09\x2A\x86\x48\x86\xF7\x0D\x01\x01\x01\x05\0\x03\x09\0\x30\x06\x02\x01\x05\x02\x01\x03";

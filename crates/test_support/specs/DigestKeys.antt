@@ -5,15 +5,15 @@ use Rattle.std.specs.Cmp.Lexicographic.{pointwise}
 use Rattle.std.specs.List.{list_any}
 use Rattle.std.specs.Option.{option_copied, option_map}
 use Rattle.sha2.specs.Sha256.{sha256}
-use Rattle.asn1_elements.specs.Raw.{Raw}
+use Rattle.picky_asn1_der.specs.Raw.{Raw}
 use Rattle.picky_asn1.specs.Bytes.{Bytes}
 use Rattle.x509_keys.specs.declared.subject_public_key_info.SubjectPublicKeyInfo.{SubjectPublicKeyInfo}
 use Rattle.x509_keys.specs.contracts.subject_public_key_info.SubjectPublicKeyInfoPartialEq.TheImpl as key_eq
-use Rattle.key_functions.specs.Encodings.{HasEncoding}
-use Rattle.key_functions.specs.KeyFunctions.{KeysRecord}
-use Rattle.key_functions.specs.SignedBy.{encodes_by, signed_by}
-use Rattle.key_functions.specs.declared.functions.Signed.{Signed}
-use Rattle.key_functions.specs.declared.signature_algorithm.SignatureAlgorithm.{SignatureAlgorithm}
+use Rattle.x509_keys.specs.Encodings.{HasEncoding}
+use Rattle.x509_keys.specs.KeyFunctions.{KeysRecord}
+use Rattle.x509_keys.specs.SignedBy.{encodes_by, signed_by}
+use Rattle.x509_keys.specs.declared.functions.Signed.{Signed}
+use Rattle.x509_keys.specs.declared.signature_algorithm.SignatureAlgorithm.{SignatureAlgorithm}
 use Rattle.test_support.specs.declared.digest_keys.DigestKeys.{DigestKeys}
 use Rattle.test_support.specs.declared.digest_keys.KnownKey.{KnownKey}
 

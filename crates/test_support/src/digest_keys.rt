@@ -2,13 +2,12 @@
 ghost use Rattle.std.specs.Prelude.{◌≡◌, [], None, Some, IfOk};
 ghost use Rattle.test_support.specs.DigestKeys.{digest_functions, digest_of, functions_of, is_by};
 
-use key_functions::{KeyFunctions, SignatureAlgorithm, Signed, Theirs};
 use picky_asn1::wrapper::OctetStringAsn1;
 use picky_asn1_der::Asn1RawDer;
 use sha2::{Digest, Sha256};
 use std::alloc::{AllocError, Global};
 use x509_algorithms::AlgorithmIdentifier;
-use x509_keys::SubjectPublicKeyInfo;
+use x509_keys::{KeyFunctions, SignatureAlgorithm, Signed, SubjectPublicKeyInfo, Theirs};
 
 /// A public key with its DER encoding. To verify a signature takes no memory, so the encoding is made before.
 #[derive(Drop)]

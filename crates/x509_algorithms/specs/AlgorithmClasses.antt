@@ -1,7 +1,7 @@
 -- Classes of algorithms, by the object identifiers that tell them: those of one class have one kind of parameters.
 use Rattle.std.specs.Prelude.{ℕ, Bool, ◌&&◌, ◌||◌, ◌==◌, nat_le, List, [], ◌∷◌}
-use Rattle.x509_parameters.specs.Arcs.{octet_behind, is_among}
-use Rattle.x509_parameters.specs.Arcs as arcs
+use Rattle.x509_algorithms.specs.Arcs.{octet_behind, is_among}
+use Rattle.x509_algorithms.specs.Arcs as arcs
 
 -- pkcs-1: 1.2.840.113549.1.1
 abbrev pub pkcs1 : List ℕ

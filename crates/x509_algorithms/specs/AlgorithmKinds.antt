@@ -10,9 +10,9 @@ use Rattle.x509_spelling.specs.declared.kinds.KindOf.{KindOf}
 use Rattle.x509_spelling.specs.declared.kinds.KindOf.TheVariants.{This, Other}
 use Rattle.x509_spelling.specs.declared.kinds.LastKind.{LastKind}
 use Rattle.x509_spelling.specs.Kinds.{case_belongs}
-use Rattle.x509_parameters.specs.declared.aes_parameters.AesParameters.{AesParameters}
-use Rattle.x509_parameters.specs.declared.ec_parameters.EcParameters.{EcParameters}
-use Rattle.x509_parameters.specs.declared.rsassa_pss_params.RsassaPssParams.{RsassaPssParams}
+use Rattle.x509_algorithms.specs.declared.aes_parameters.AesParameters.{AesParameters}
+use Rattle.x509_algorithms.specs.declared.ec_parameters.EcParameters.{EcParameters}
+use Rattle.x509_algorithms.specs.declared.rsassa_pss_params.RsassaPssParams.{RsassaPssParams}
 use Rattle.x509_algorithms.specs.declared.algorithm_kinds.AlgorithmIdentifierParameters.{AlgorithmIdentifierParameters}
 use Rattle.x509_algorithms.specs.declared.algorithm_kinds.AlgorithmIdentifierParameters.TheVariants as kind
 use Rattle.x509_algorithms.specs.AlgorithmClasses.{is_rsa, is_hash, is_signature, is_plain, is_curve_key, is_pss, is_aes}

@@ -2,14 +2,14 @@
 use Rattle.std.specs.Prelude.{ℕ, List, Option, None, Some, refl, IsTrue}
 use Rattle.asn1_leaves.specs.ObjectIdentifier.{oid_content, subidentifier}
 use Rattle.x509_oids.specs.Identifiers as oids
-use Rattle.x509_parameters.specs.declared.aes_parameters.AesMode.{AesMode}
-use Rattle.x509_parameters.specs.declared.aes_parameters.AesMode.TheVariants as mode
-use Rattle.x509_parameters.specs.declared.aes_parameters.AesParameters.{AesParameters}
-use Rattle.x509_parameters.specs.declared.ec_parameters.EcParameters.{EcParameters}
-use Rattle.x509_parameters.specs.declared.rsassa_pss_params.RsassaPssParams.{RsassaPssParams}
-use Rattle.x509_parameters.specs.declared.sha_variant.ShaVariant.{ShaVariant}
-use Rattle.x509_parameters.specs.declared.sha_variant.ShaVariant.TheVariants as hash
-use Rattle.x509_parameters.specs.ShaVariants.{sha_arcs}
+use Rattle.x509_algorithms.specs.declared.aes_parameters.AesMode.{AesMode}
+use Rattle.x509_algorithms.specs.declared.aes_parameters.AesMode.TheVariants as mode
+use Rattle.x509_algorithms.specs.declared.aes_parameters.AesParameters.{AesParameters}
+use Rattle.x509_algorithms.specs.declared.ec_parameters.EcParameters.{EcParameters}
+use Rattle.x509_algorithms.specs.declared.rsassa_pss_params.RsassaPssParams.{RsassaPssParams}
+use Rattle.x509_algorithms.specs.declared.sha_variant.ShaVariant.{ShaVariant}
+use Rattle.x509_algorithms.specs.declared.sha_variant.ShaVariant.TheVariants as hash
+use Rattle.x509_algorithms.specs.ShaVariants.{sha_arcs}
 use Rattle.x509_algorithms.specs.declared.algorithm_kinds.AlgorithmIdentifierParameters.TheVariants as kind
 use Rattle.x509_algorithms.specs.declared.named.RsaAlgorithm.{RsaAlgorithm}
 use Rattle.x509_algorithms.specs.declared.named.RsaAlgorithm.TheVariants as rsa

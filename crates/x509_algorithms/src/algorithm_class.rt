@@ -1,10 +1,10 @@
 //! Classes of algorithms, by the object identifiers that tell them.
 ghost use Rattle.std.specs.Prelude.{◌≡◌};
-ghost use Rattle.x509_parameters.specs.Arcs.{octet_behind, is_among};
-ghost use Rattle.x509_parameters.specs.Arcs as arcs;
+ghost use Rattle.x509_algorithms.specs.Arcs.{octet_behind, is_among};
+ghost use Rattle.x509_algorithms.specs.Arcs as arcs;
 ghost use Rattle.x509_algorithms.specs.AlgorithmClasses as classes;
 
-use x509_parameters::octet_behind;
+use crate::octet_behind;
 use x509_spelling::Identifiers;
 
 /// RSA keys and signatures of PKCS #1 (RFC 4055, sections 1.2 and 5).

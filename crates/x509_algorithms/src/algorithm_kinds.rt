@@ -6,10 +6,10 @@ ghost use Rattle.x509_algorithms.specs.AlgorithmKinds.{kinds_of, belongs};
 use crate::algorithm_class::{
     AesCiphers, CurveKeys, Hashes, PlainAlgorithms, PssSignatures, RsaAlgorithms, Signatures,
 };
+use crate::{AesParameters, EcParameters, NoNull, Null, RsaNull, RsassaPssParams};
 use picky_asn1::oid::ObjectIdentifier;
 use picky_asn1_der::DefaultField;
 use std::alloc::AllocError;
-use x509_parameters::{AesParameters, EcParameters, NoNull, Null, RsaNull, RsassaPssParams};
 use x509_spelling::{Implied, KindOf, LastKind, ToldBy};
 
 /// The parameters of an algorithm. The algorithm's identifier decides their kind.

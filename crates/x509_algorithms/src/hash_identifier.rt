@@ -5,12 +5,12 @@ ghost use Rattle.x509_algorithms.specs.AlgorithmClasses.{is_hash};
 ghost use Rattle.asn1_der.specs.Octets.{sequence_octet};
 
 use crate::algorithm_class::Hashes;
+use crate::{HashNull, Null};
 use asn1_der::octets::SEQUENCE;
 use byte_streams::Sink;
 use picky_asn1::wrapper::ObjectIdentifierAsn1;
 use picky_asn1_der::{Asn1DerError, Serialize, Serializer};
 use std::alloc::Global;
-use x509_parameters::{HashNull, Null};
 use x509_spelling::{
     Counted, Implied, Kinds, LastKind, Spelled, SpelledItem, ToldBy, X509Fault, read_identified,
 };

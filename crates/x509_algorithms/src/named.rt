@@ -2,9 +2,9 @@
 ghost use Rattle.std.specs.Prelude.{◌≡◌, IfOk};
 ghost use Rattle.x509_algorithms.specs.Named.{rsa_arcs, plain_arcs, aes128_arcs, aes192_arcs, aes256_arcs};
 
+use crate::AesMode;
 use picky_asn1::oid::ObjectIdentifier;
 use std::alloc::{AllocError, Global};
-use x509_parameters::AesMode;
 
 /// An algorithm of the RSA family, which has NULL (RFC 8017, appendix C).
 #[derive(Clone, Copy, Debug, PartialEq, Eq)]

@@ -8,8 +8,8 @@ ghost use Rattle.x509_algorithms.specs.declared.algorithm_kinds.AlgorithmIdentif
 use crate::algorithm_identifier::AlgorithmIdentifier;
 use crate::algorithm_kinds::AlgorithmIdentifierParameters;
 use crate::named::{PlainAlgorithm, aes128_oid, aes192_oid, aes256_oid};
+use crate::{AesMode, AesParameters, EcParameters};
 use std::alloc::{AllocError, Global};
-use x509_parameters::{AesMode, AesParameters, EcParameters};
 
 impl AlgorithmIdentifier {
     fn of_plain(alloc: Global, algorithm: PlainAlgorithm) -> Result<AlgorithmIdentifier, AllocError>

@@ -1,7 +1,7 @@
 //! Identifiers of hashes and of the RSA family, made anew (RFC 8017, appendix C).
 ghost use Rattle.std.specs.Prelude.{◌≡◌, None, IfOk, MatchOption, MatchResult};
 ghost use Rattle.x509_oids.specs.Identifiers as oids;
-ghost use Rattle.x509_parameters.specs.ShaVariants.{sha_arcs};
+ghost use Rattle.x509_algorithms.specs.ShaVariants.{sha_arcs};
 ghost use Rattle.x509_algorithms.specs.AlgorithmsMade.{IsMade};
 ghost use Rattle.x509_algorithms.specs.Named.{rsa_arcs, rsa_over};
 ghost use Rattle.x509_algorithms.specs.declared.algorithm_kinds.AlgorithmIdentifierParameters.TheVariants as kind;
@@ -9,8 +9,8 @@ ghost use Rattle.x509_algorithms.specs.declared.algorithm_kinds.AlgorithmIdentif
 use crate::algorithm_identifier::AlgorithmIdentifier;
 use crate::algorithm_kinds::AlgorithmIdentifierParameters;
 use crate::named::RsaAlgorithm;
+use crate::{RsassaPssParams, ShaVariant, UnsupportedAlgorithmError};
 use std::alloc::{AllocError, Global};
-use x509_parameters::{RsassaPssParams, ShaVariant, UnsupportedAlgorithmError};
 
 impl AlgorithmIdentifier {
     fn of_rsa(alloc: Global, algorithm: RsaAlgorithm) -> Result<AlgorithmIdentifier, AllocError>

@@ -2,7 +2,7 @@
 use Rattle.std.proofs.Common.{◌≡◌, Bool, true, false, List, Option, subst}
 use Rattle.std.specs.Prelude.{IsTrue}
 use Rattle.asn1_codec.specs.declared.optional.Optional.{Optional}
-use Rattle.x509_extensions.specs.declared.extension.Extension.{Extension}
+use Rattle.x509_certificates.specs.declared.extension.Extension.{Extension}
 use Rattle.x509_spelling.specs.declared.enclosed.Explicit.{Explicit}
 use Rattle.x509_certificates.specs.ExtensionsFields.{is_written}
 use Rattle.x509_certificates.specs.declared.certificate_extensions.CertificateExtensions.{CertificateExtensions}

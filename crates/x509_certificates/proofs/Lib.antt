@@ -1,1 +1,5 @@
+mod UseLemmas
 mod ExtensionsLemmas
+mod Boundaries
+mod Holding
+mod Keys

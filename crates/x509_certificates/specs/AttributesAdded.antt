@@ -1,6 +1,6 @@
 -- Requests with a further attribute.
 use Rattle.std.specs.Prelude.{◌≡◌, List, [], ◌∷◌, ◌++◌}
-use Rattle.x509_attributes.specs.declared.attribute.Attribute.{Attribute}
+use Rattle.x509_certificates.specs.declared.attribute.Attribute.{Attribute}
 use Rattle.x509_certificates.specs.declared.certification_request_info.CertificationRequestInfo.{CertificationRequestInfo}
 
 -- the request is the old one with the attribute added after the others

@@ -5,8 +5,8 @@ use Rattle.picky_asn1.specs.BitString.{Bits}
 use Rattle.picky_asn1_der.specs.declared.default.DefaultField.{DefaultField}
 use Rattle.x509_algorithms.specs.declared.algorithm_identifier.AlgorithmIdentifier.{AlgorithmIdentifier}
 use Rattle.x509_keys.specs.declared.subject_public_key_info.SubjectPublicKeyInfo.{SubjectPublicKeyInfo}
-use Rattle.x509_names.specs.declared.attribute_type_and_value.AttributeTypeAndValue.{AttributeTypeAndValue}
-use Rattle.x509_parts.specs.declared.validity.Validity.{Validity}
+use Rattle.x509_fields.specs.declared.attribute_type_and_value.AttributeTypeAndValue.{AttributeTypeAndValue}
+use Rattle.x509_fields.specs.declared.validity.Validity.{Validity}
 use Rattle.x509_certificates.specs.declared.certificate.Certificate.{Certificate}
 use Rattle.x509_certificates.specs.declared.certificate_extensions.CertificateExtensions.{CertificateExtensions}
 use Rattle.x509_certificates.specs.declared.tbs_certificate.TbsCertificate.{TbsCertificate}

@@ -1,6 +1,6 @@
 -- The extensions of a certificate, which are written where there are any (RFC 5280, section 4.1).
 use Rattle.std.specs.Prelude.{Bool, true, false, List, [], ◌∷◌, Option, None, Some}
-use Rattle.x509_extensions.specs.declared.extension.Extension.{Extension}
+use Rattle.x509_certificates.specs.declared.extension.Extension.{Extension}
 use Rattle.x509_spelling.specs.declared.enclosed.Explicit.{Explicit}
 
 abbrev pub has_some : {A : Type 0} → List A → Bool

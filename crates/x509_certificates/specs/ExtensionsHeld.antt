@@ -1,13 +1,13 @@
 -- The first value of a kind among some extensions (RFC 5280, section 4.2.1).
 use Rattle.std.specs.Prelude.{ℕ, List, [], ◌∷◌, Option, None, Some}
-use Rattle.x509_extensions.specs.declared.authority_key_identifier.AuthorityKeyIdentifier.{AuthorityKeyIdentifier}
-use Rattle.x509_extensions.specs.declared.extension.Extension.{Extension}
-use Rattle.x509_extensions.specs.declared.extension_value.ExtensionValue.{ExtensionValue}
-use Rattle.x509_extensions.specs.declared.extension_value.ExtensionValue.TheVariants as kind
-use Rattle.x509_extensions.specs.declared.key_usage.KeyUsage.{KeyUsage}
-use Rattle.x509_names.specs.Parameters.{or_else}
-use Rattle.x509_names.specs.declared.general_name.GeneralName.{GeneralName}
-use Rattle.x509_parts.specs.declared.basic_constraints.BasicConstraints.{BasicConstraints}
+use Rattle.x509_certificates.specs.declared.authority_key_identifier.AuthorityKeyIdentifier.{AuthorityKeyIdentifier}
+use Rattle.x509_certificates.specs.declared.extension.Extension.{Extension}
+use Rattle.x509_certificates.specs.declared.extension_value.ExtensionValue.{ExtensionValue}
+use Rattle.x509_certificates.specs.declared.extension_value.ExtensionValue.TheVariants as kind
+use Rattle.x509_certificates.specs.declared.key_usage.KeyUsage.{KeyUsage}
+use Rattle.x509_fields.specs.Parameters.{or_else}
+use Rattle.x509_fields.specs.declared.general_name.GeneralName.{GeneralName}
+use Rattle.x509_fields.specs.declared.basic_constraints.BasicConstraints.{BasicConstraints}
 
 -- Where an extension is there twice, against RFC 5280, section 4.2, the first that has what is sought counts. Test:
 -- `first of two subject alternative names is another`, `two subject alternative names, the principal in the second` of `trusted.txt`.

@@ -6,7 +6,7 @@ use mathlib.Core.HLevel.{is_prop→PathP}
 use Rattle.asn1_der.specs.Tree.{Trees}
 use Rattle.asn1_der.specs.Firsts.{Firsts}
 use Rattle.asn1_codec.specs.declared.optional.Optional.{Optional}
-use Rattle.x509_extensions.specs.declared.extension.Extension.{Extension}
+use Rattle.x509_certificates.specs.declared.extension.Extension.{Extension}
 use Rattle.x509_spelling.specs.declared.enclosed.Explicit.{Explicit}
 use Rattle.x509_spelling.specs.Laws.{RowLaws}
 use Rattle.x509_certificates.specs.ExtensionsFields.{is_written}

@@ -3,11 +3,11 @@ use Rattle.std.proofs.Common.{◌≡◌, List, ap}
 use Rattle.std.specs.Prelude.{⊤}
 use Rattle.picky_asn1.specs.BitString.{Bits}
 use Rattle.x509_algorithms.specs.declared.algorithm_identifier.AlgorithmIdentifier.{AlgorithmIdentifier}
-use Rattle.x509_attributes.specs.declared.open_ssl_attributes.OpenSslAttributes.{OpenSslAttributes}
+use Rattle.x509_certificates.specs.declared.open_ssl_attributes.OpenSslAttributes.{OpenSslAttributes}
 use Rattle.x509_spelling.specs.declared.fixed_number.FixedNumber.{FixedNumber}
 use Rattle.x509_spelling.specs.declared.strict.Strict.{Strict}
 use Rattle.x509_keys.specs.declared.subject_public_key_info.SubjectPublicKeyInfo.{SubjectPublicKeyInfo}
-use Rattle.x509_names.specs.declared.attribute_type_and_value.AttributeTypeAndValue.{AttributeTypeAndValue}
+use Rattle.x509_fields.specs.declared.attribute_type_and_value.AttributeTypeAndValue.{AttributeTypeAndValue}
 use Rattle.x509_spelling.specs.declared.implied.Implied.{Implied}
 use Rattle.x509_certificates.specs.declared.certification_request.CertificationRequest.{CertificationRequest}
 use Rattle.x509_certificates.specs.declared.certification_request_info.CertificationRequestInfo.{CertificationRequestInfo}

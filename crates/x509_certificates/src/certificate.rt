@@ -7,6 +7,7 @@ ghost use Rattle.asn1_der.specs.Octets.{sequence_octet};
 
 use crate::held::first_held;
 use crate::tbs_certificate::TbsCertificate;
+use crate::{AuthorityKeyIdentifier, Extension, KeyUsage, SubjectAltName, SubjectKeyIdentifier};
 use asn1_der::octets::SEQUENCE;
 use byte_streams::Sink;
 use picky_asn1::wrapper::BitStringAsn1;
@@ -14,10 +15,7 @@ use picky_asn1_der::{Asn1DerError, LentFields, Serialize, Serializer, fields_of}
 use std::alloc::{AllocError, Global};
 use x509_algorithms::AlgorithmIdentifier;
 use x509_codec::{Signed, with_signed_part};
-use x509_extensions::{
-    AuthorityKeyIdentifier, Extension, KeyUsage, SubjectAltName, SubjectKeyIdentifier,
-};
-use x509_parts::BasicConstraints;
+use x509_fields::BasicConstraints;
 use x509_spelling::{Ahead, Counted, Spelled, SpelledFields, X509Fault, read_fields};
 
 /// A certificate: who a key belongs to, as its issuer signs it.

@@ -3,9 +3,9 @@ ghost use Rattle.std.specs.Prelude.{◌≡◌, ℕ, List, IsTrue, IfOk, MatchRes
 ghost use Rattle.x509_spelling.specs.Answers.{Tells};
 ghost use Rattle.x509_certificates.specs.ExtensionsFields.{is_written, extensions_in};
 
+use crate::{Extension, Extensions};
 use picky_asn1_der::{Optional, Row1};
 use std::alloc::{AllocError, Global};
-use x509_extensions::{Extension, Extensions};
 use x509_spelling::{Counted, Explicit, SpelledFields, X509Fault};
 
 /// The extensions of a certificate, which are written where there are any.

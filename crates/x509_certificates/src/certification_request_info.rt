@@ -3,13 +3,13 @@ ghost use Rattle.std.specs.Prelude.{◌≡◌, [], IfOk, MatchResult};
 ghost use Rattle.x509_certificates.specs.Requests.{info_row};
 ghost use Rattle.asn1_der.specs.Octets.{sequence_octet};
 
+use crate::{Attribute, Attributes, OpenSslAttributes};
 use asn1_der::octets::SEQUENCE;
 use byte_streams::Sink;
 use picky_asn1_der::{Asn1DerError, LentFields, Serialize, Serializer, fields_of};
 use std::alloc::{AllocError, Global};
-use x509_attributes::{Attribute, Attributes, OpenSslAttributes};
+use x509_fields::Name;
 use x509_keys::SubjectPublicKeyInfo;
-use x509_names::Name;
 use x509_spelling::{
     Counted, FixedNumber, Implied, Spelled, SpelledFields, Strict, X509Fault, read_fields,
 };

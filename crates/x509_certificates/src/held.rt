@@ -1,11 +1,11 @@
 //! The first value of a kind among some extensions.
 ghost use Rattle.std.specs.Prelude.{◌≡◌, Option, None, Some, MatchOption};
-ghost use Rattle.x509_extensions.specs.declared.extension_value.ExtensionValue.{ExtensionValue};
+ghost use Rattle.x509_certificates.specs.declared.extension_value.ExtensionValue.{ExtensionValue};
 ghost use Rattle.x509_certificates.specs.ExtensionsHeld.{first_among, key_held, authority_held, constraints_held, subject_names_held, usage_held};
 
+use crate::{AuthorityKeyIdentifier, Extension, ExtensionView, KeyUsage, SubjectAltName};
 use picky_asn1::wrapper::OctetStringAsn1;
-use x509_extensions::{AuthorityKeyIdentifier, Extension, ExtensionView, KeyUsage, SubjectAltName};
-use x509_parts::BasicConstraints;
+use x509_fields::BasicConstraints;
 
 /// What extensions of one kind hold.
 pub(crate) trait Held: Sized {

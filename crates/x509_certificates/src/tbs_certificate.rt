@@ -13,9 +13,8 @@ use picky_asn1_der::{
 };
 use std::alloc::{AllocError, Global};
 use x509_algorithms::AlgorithmIdentifier;
+use x509_fields::{Name, Validity, Version};
 use x509_keys::SubjectPublicKeyInfo;
-use x509_names::Name;
-use x509_parts::{Validity, Version};
 use x509_spelling::{Ahead, Counted, Spelled, SpelledFields, X509Fault, read_fields};
 
 /// What a certificate's issuer signs.

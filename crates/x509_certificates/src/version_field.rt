@@ -7,7 +7,7 @@ use picky_asn1_der::{
     Asn1DerError, Deserialize, Deserializer, ExplicitContextTag, HasDefault, Serialize, Serializer,
 };
 use std::alloc::{AllocError, Global};
-use x509_parts::Version;
+use x509_fields::Version;
 use x509_spelling::{Deviates, Exact};
 
 /// A certificate's version under its tag. That v1 is spelled out is a deviation.
@@ -72,7 +72,7 @@ impl Exact for VersionField {
 impl HasDefault for VersionField {
     ghost use Rattle.std.proofs.Common.{ap};
     ghost use Rattle.std.specs.Prelude.{◌==◌};
-    ghost use Rattle.x509_parts.specs.Versions.{version_number, one_version_1};
+    ghost use Rattle.x509_fields.specs.Versions.{version_number, one_version_1};
 
     ghost is_default_value = { λ field. version_number field.0.0 == 0 };
 

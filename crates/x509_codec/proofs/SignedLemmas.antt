@@ -5,9 +5,9 @@ use Rattle.asn1_der.specs.Tree.{Tree}
 use Rattle.asn1_der.specs.Length.{element}
 use Rattle.asn1_der.specs.Firsts.{Firsts}
 use Rattle.asn1_der.proofs.Elements.{element-one}
-use Rattle.asn1_elements.specs.Raw.{Raw}
-use Rattle.asn1_elements.specs.Splits.{SplitsInto, IsNoSplit, raw_bytes}
-use Rattle.asn1_elements.specs.Parts.{AreElements, IsPart, IsStep}
+use Rattle.picky_asn1_der.specs.Raw.{Raw}
+use Rattle.picky_asn1_der.specs.Splits.{SplitsInto, IsNoSplit, raw_bytes}
+use Rattle.picky_asn1_der.specs.Parts.{AreElements, IsPart, IsStep}
 use Rattle.x509_spelling.specs.declared.fault.X509Fault.{X509Fault}
 use Rattle.x509_codec.specs.Answers.{ReadsSpelling}
 use Rattle.x509_spelling.specs.Laws.{SpellingLaws}

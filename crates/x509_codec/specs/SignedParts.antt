@@ -5,9 +5,9 @@ use Rattle.asn1_der.specs.Tree.{Tree, der}
 use Rattle.asn1_der.specs.Length.{element}
 use Rattle.asn1_der.specs.Firsts.{Firsts}
 use Rattle.asn1_der.proofs.Elements.{element-split}
-use Rattle.asn1_elements.specs.Raw.{Raw}
-use Rattle.asn1_elements.specs.Splits.{SplitsInto}
-use Rattle.asn1_elements.specs.Parts.{AreElements, IsPart}
+use Rattle.picky_asn1_der.specs.Raw.{Raw}
+use Rattle.picky_asn1_der.specs.Splits.{SplitsInto}
+use Rattle.picky_asn1_der.specs.Parts.{AreElements, IsPart}
 use Rattle.x509_spelling.specs.Spellings.{has_low_tag, Leads, IsEnd, Joins, Holds}
 use Rattle.x509_spelling.specs.Laws.{SpellingLaws}
 use Rattle.asn1_der.specs.Octets.{sequence_octet}

@@ -1,3 +1,14 @@
 pub mod KeyIdentifiers
 pub mod KeyInfoLaws
 pub mod PublicKeys
+pub mod EcRows
+pub mod KeyValues
+pub mod MadeKeys
+pub mod PrivateInfoLaws
+pub mod PrivateKeys
+pub mod PrivateLaws
+pub mod PublicKeyFields
+pub mod Under
+pub mod Encodings
+pub mod KeyFunctions
+pub mod SignedBy

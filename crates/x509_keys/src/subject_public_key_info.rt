@@ -1,7 +1,7 @@
 //! Public keys with their algorithms (RFC 5280, section 4.1.2.7).
 ghost use Rattle.std.specs.Prelude.{◌≡◌, ℕ, List, true, false, IsTrue, IfOk, MatchResult};
 ghost use Rattle.x509_keys.specs.PublicKeys.{is_key_of, kinds_of};
-ghost use Rattle.x509_parameters.specs.declared.ec_parameters.EcParameters.TheVariants.{NamedCurve};
+ghost use Rattle.x509_algorithms.specs.declared.ec_parameters.EcParameters.TheVariants.{NamedCurve};
 ghost use Rattle.asn1_der.specs.Octets.{sequence_octet};
 
 use crate::public_key::{EncapsulatedEcPoint, PublicKey, PublicKinds, is_of, of_kinds};
@@ -12,8 +12,7 @@ use picky_asn1::oid::ObjectIdentifier;
 use picky_asn1::wrapper::{BitStringAsn1Container, IntegerAsn1};
 use picky_asn1_der::{Asn1DerError, Deserialize, Deserializer, Serialize, Serializer};
 use std::alloc::{AllocError, Global};
-use x509_algorithms::AlgorithmIdentifier;
-use x509_parameters::EcParameters;
+use x509_algorithms::{AlgorithmIdentifier, EcParameters};
 use x509_spelling::{
     Ahead, Counted, Identified, Kinds, Spelled, SpelledItem, X509Fault, read_chosen_in, read_strict,
 };

@@ -11,8 +11,8 @@ use Rattle.asn1_codec.specs.Reads.{ReadsWhole}
 use Rattle.asn1_codec.proofs.ReadsLemmas.{gives-none}
 use Rattle.asn1_der.specs.declared.error.Asn1DerError.{Asn1DerError}
 use Rattle.asn1_der.specs.declared.error.Asn1DerError.TheVariants as der_fault
-use Rattle.asn1_elements.specs.Splits.{IsNoSplit}
-use Rattle.asn1_elements.specs.Raw.{has_low_number}
+use Rattle.picky_asn1_der.specs.Splits.{IsNoSplit}
+use Rattle.picky_asn1_der.specs.Raw.{has_low_number}
 use Rattle.x509_spelling.specs.declared.fault.X509Fault.{X509Fault}
 use Rattle.x509_spelling.specs.Answers.{IsRefusal, Tells, fault_of}
 use Rattle.x509_spelling.specs.declared.counted.Counted.{Counted}

@@ -10,7 +10,7 @@ use Rattle.asn1_der.specs.declared.error.Asn1DerError.{Asn1DerError}
 use Rattle.asn1_der.specs.declared.error.Asn1DerError.TheVariants as der_fault
 use Rattle.asn1_codec.specs.Reading.{Reading, TookValue, IsSpelling, Refused, stopped}
 use Rattle.asn1_codec.proofs.Chain.{took-as, refused-memory, refused-taken}
-use Rattle.asn1_elements.specs.Raw.{Raw, has_low_number, raw_tree}
+use Rattle.picky_asn1_der.specs.Raw.{Raw, has_low_number, raw_tree}
 use Rattle.x509_spelling.specs.declared.fault.X509Fault.{X509Fault}
 use Rattle.x509_spelling.specs.declared.fault.X509Fault.TheVariants.{Der, Leaf, Meaning, Memory}
 use Rattle.x509_spelling.specs.Answers.{IsRefusal}

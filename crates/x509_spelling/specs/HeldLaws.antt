@@ -7,7 +7,7 @@ use Rattle.asn1_der.specs.Length.{element}
 use Rattle.asn1_der.specs.Firsts.{Firsts, only}
 use Rattle.asn1_der.proofs.Elements.{element-split, element-content}
 use Rattle.asn1_der.proofs.Spelling.{IsInjective, may_begin-only, der-wrapped, wrapped-whole, whole-wrapped}
-use Rattle.asn1_elements.specs.Raw.{has_low_number}
+use Rattle.picky_asn1_der.specs.Raw.{has_low_number}
 use Rattle.x509_spelling.specs.Spellings.{has_low_tag, Holds}
 use Rattle.x509_spelling.specs.Laws.{SpellingLaws, RowLaws}
 use Rattle.x509_spelling.specs.Kinds.{MadeOf}

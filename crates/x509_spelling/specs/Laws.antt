@@ -9,7 +9,7 @@ use Rattle.asn1_der.specs.Firsts.{Firsts, any_octet, one_of, may_begin, BeginsAm
 use Rattle.asn1_der.proofs.Elements.{element-split}
 use Rattle.asn1_der.proofs.Spelling.{IsInjective}
 use Rattle.asn1_der.proofs.Rows.{AllBeginAmong}
-use Rattle.asn1_elements.specs.Raw.{has_low_number}
+use Rattle.picky_asn1_der.specs.Raw.{has_low_number}
 use Rattle.x509_spelling.specs.Spellings.{IsExact, has_low_tag}
 
 -- the bytes are one element, with one of these identifier octets

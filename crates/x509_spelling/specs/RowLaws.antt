@@ -7,7 +7,7 @@ use Rattle.asn1_der.specs.Tagged.{sequence}
 use Rattle.asn1_der.specs.Firsts.{Firsts, one_of, only}
 use Rattle.asn1_der.proofs.Elements.{element-split, element-content}
 use Rattle.asn1_der.proofs.Spelling.{may_begin-only}
-use Rattle.asn1_elements.specs.Raw.{has_low_number}
+use Rattle.picky_asn1_der.specs.Raw.{has_low_number}
 use Rattle.x509_spelling.specs.Spellings.{has_low_tag, Leads, IsEnd, Joins, AreMany, Holds, begins}
 use Rattle.x509_spelling.specs.Laws.{SpellingLaws, RowLaws, FieldLaws, Starts, held_laws}
 use Rattle.x509_spelling.specs.FieldLaws.{leads-one, leads-begins, leads-strict, required_laws}

@@ -3,7 +3,7 @@ use Rattle.std.specs.Prelude.{◌≡◌, ℕ, ◌+◌, ◌⊎◌, Bool, true, fa
 use Rattle.asn1_der.specs.Tree.{Tree, IsWhole, Writes}
 use Rattle.asn1_der.specs.Length.{element}
 use Rattle.asn1_der.specs.Firsts.{Firsts, may_begin}
-use Rattle.asn1_elements.specs.Raw.{has_low_number}
+use Rattle.picky_asn1_der.specs.Raw.{has_low_number}
 use Rattle.x509_spelling.specs.Deviations.{Deviation, counted}
 
 -- the value's one DER spelling, in which nothing deviates

@@ -1,6 +1,6 @@
 //! Fields of which a value in front of them decides the kind.
 ghost use Rattle.std.specs.Prelude.{◌≡◌, ℕ, true, List, IsTrue, MatchResult};
-ghost use Rattle.asn1_elements.specs.Raw.{has_low_number};
+ghost use Rattle.picky_asn1_der.specs.Raw.{has_low_number};
 ghost use Rattle.x509_spelling.specs.Spellings.{Leads, Joins, Holds};
 ghost use Rattle.x509_spelling.specs.Answers.{Tells};
 

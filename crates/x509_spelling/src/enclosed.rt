@@ -3,7 +3,7 @@ ghost use Rattle.std.specs.Prelude.{◌≡◌, ◌+◌, ◌%◌, true, MatchResu
 ghost use Rattle.asn1_der.specs.Tree.{wrapped};
 ghost use Rattle.asn1_der.specs.Firsts.{only};
 ghost use Rattle.asn1_der.specs.Refusals.{part_refusal};
-ghost use Rattle.asn1_elements.specs.Raw.{has_low_number};
+ghost use Rattle.picky_asn1_der.specs.Raw.{has_low_number};
 ghost use Rattle.x509_spelling.specs.Spellings.{Holds};
 ghost use Rattle.x509_spelling.specs.Answers.{Tells};
 ghost use Rattle.asn1_der.specs.Octets.{octet_string_octet};

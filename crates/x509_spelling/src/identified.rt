@@ -1,6 +1,6 @@
 //! SEQUENCEs of an object identifier and the fields of the kind that it denotes.
 ghost use Rattle.std.specs.Prelude.{◌≡◌, true, IsTrue, MatchResult};
-ghost use Rattle.asn1_elements.specs.Raw.{has_low_number};
+ghost use Rattle.picky_asn1_der.specs.Raw.{has_low_number};
 ghost use Rattle.x509_spelling.specs.Spellings.{Leads, Joins, Holds};
 ghost use Rattle.x509_spelling.specs.Answers.{Tells};
 

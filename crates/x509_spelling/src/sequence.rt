@@ -1,7 +1,7 @@
 //! SEQUENCEs, of which each field may deviate.
 ghost use Rattle.std.specs.Prelude.{◌≡◌, ℕ, true, List, IsTrue, MatchResult};
 ghost use Rattle.asn1_der.specs.Length.{element};
-ghost use Rattle.asn1_elements.specs.Raw.{has_low_number};
+ghost use Rattle.picky_asn1_der.specs.Raw.{has_low_number};
 ghost use Rattle.x509_spelling.specs.Spellings.{Holds};
 ghost use Rattle.x509_spelling.specs.Answers.{Tells, IsRefusal};
 

@@ -1,10 +1,10 @@
 //! Replies of a service.
 ghost use Rattle.asn1_der.specs.Octets.{sequence_octet};
 
+use crate::data_types::EncryptedData;
 use asn1_der::octets::SEQUENCE;
 use byte_streams::{Sink, Source};
 use krb_constants::types::AP_REP_MSG_TYPE;
-use krb_types::data_types::EncryptedData;
 use picky_asn1::wrapper::IntegerAsn1;
 use picky_asn1_der::{
     ApplicationTag, Asn1DerError, Deserializer, ExplicitContextTag0, ExplicitContextTag1,

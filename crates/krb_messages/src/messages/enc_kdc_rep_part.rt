@@ -1,13 +1,13 @@
 //! The sealed part of a KDC's reply.
 ghost use Rattle.asn1_der.specs.Octets.{sequence_octet};
 
-use asn1_der::octets::SEQUENCE;
-use byte_streams::{Sink, Source};
-use krb_constants::types::{ENC_AS_REP_PART_TYPE, ENC_TGS_REP_PART_TYPE};
-use krb_types::data_types::{
+use crate::data_types::{
     EncryptionKey, HostAddresses, KerberosFlags, KerberosTime, LastReq, PaData, PrincipalName,
     Realm,
 };
+use asn1_der::octets::SEQUENCE;
+use byte_streams::{Sink, Source};
+use krb_constants::types::{ENC_AS_REP_PART_TYPE, ENC_TGS_REP_PART_TYPE};
 use picky_asn1::wrapper::{Asn1SequenceOf, IntegerAsn1};
 use picky_asn1_der::{
     ApplicationTag, Asn1DerError, Deserializer, ExplicitContextTag0, ExplicitContextTag1,

@@ -1,11 +1,11 @@
 //! Requests to a KDC.
 ghost use Rattle.asn1_der.specs.Octets.{sequence_octet};
 
+use crate::data_types::PaData;
 use crate::messages::KdcReqBody;
 use asn1_der::octets::SEQUENCE;
 use byte_streams::{Sink, Source};
 use krb_constants::types::{AS_REQ_MSG_TYPE, TGS_REQ_MSG_TYPE};
-use krb_types::data_types::PaData;
 use picky_asn1::wrapper::{Asn1SequenceOf, IntegerAsn1};
 use picky_asn1_der::{
     ApplicationTag, Asn1DerError, Deserializer, ExplicitContextTag1, ExplicitContextTag2,

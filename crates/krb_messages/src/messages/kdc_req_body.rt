@@ -1,11 +1,11 @@
 //! The body of a request.
 ghost use Rattle.asn1_der.specs.Octets.{sequence_octet};
 
-use asn1_der::octets::SEQUENCE;
-use byte_streams::{Sink, Source};
-use krb_types::data_types::{
+use crate::data_types::{
     EncryptedData, HostAddresses, KerberosFlags, KerberosTime, PrincipalName, Realm, Ticket,
 };
+use asn1_der::octets::SEQUENCE;
+use byte_streams::{Sink, Source};
 use picky_asn1::wrapper::{Asn1SequenceOf, IntegerAsn1};
 use picky_asn1_der::{
     Asn1DerError, Deserializer, ExplicitContextTag0, ExplicitContextTag1, ExplicitContextTag2,

@@ -1,10 +1,10 @@
 //! Errors.
 ghost use Rattle.asn1_der.specs.Octets.{sequence_octet};
 
+use crate::data_types::{KerberosStringAsn1, KerberosTime, Microseconds, PrincipalName, Realm};
 use asn1_der::octets::SEQUENCE;
 use byte_streams::{Sink, Source};
 use krb_constants::types::KRB_ERROR_MSG_TYPE;
-use krb_types::data_types::{KerberosStringAsn1, KerberosTime, Microseconds, PrincipalName, Realm};
 use picky_asn1::wrapper::{IntegerAsn1, OctetStringAsn1};
 use picky_asn1_der::{
     ApplicationTag, Asn1DerError, Deserializer, ExplicitContextTag0, ExplicitContextTag1,

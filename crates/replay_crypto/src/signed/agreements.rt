@@ -2,13 +2,12 @@
 
 use crate::agreements::group_named;
 use crate::signed::key_rows::KeyRow;
-use diffie_hellman::{Group, WeakGroup};
-use key_functions::{KeyFunctions, Theirs};
 use picky_asn1::wrapper::BitStringAsn1;
 use picky_asn1_der::Asn1RawDer;
-use rsa_keys::RsaKeys;
+use public_key_cryptography::{Group, WeakGroup};
+use rsa_keys::{DhFault, DhPublicValue, RsaKeys};
 use std::alloc::Global;
-use x509_dh_keys::{DhFault, DhPublicValue};
+use x509_keys::{KeyFunctions, Theirs};
 
 fn name_of(fault: DhFault) -> &'static str {
     match fault {

@@ -1,9 +1,9 @@
 //! Files of certificates and private keys.
 
 use crate::signed::key_rows::KeyRow;
-use key_files::{FileFault, certificate_in, private_key_in};
 use std::alloc::Global;
-use x509_private_keys::RsaPrivateKey;
+use x509_certificates::{FileFault, certificate_in, private_key_in};
+use x509_keys::RsaPrivateKey;
 
 /// The name of a fault, and its place.
 fn name_of(fault: FileFault) -> (&'static str, Option<usize>) {

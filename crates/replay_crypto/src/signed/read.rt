@@ -3,9 +3,9 @@
 use crate::signed::lines::{bytes_of, column_of};
 use crate::signed::trusted::code_of;
 use anyhow::{Context, bail};
-use asn1_elements::part_at;
 use cms_signed_data::{ContentInfo, SignedContent, SignedFault};
-use pkinit_trust::{JudgedContent, check_signer};
+use picky_asn1_der::part_at;
+use pkinit_validation::{JudgedContent, check_signer};
 use sha2::{Digest, Sha256};
 use std::alloc::Global;
 use test_support::GivenSignature;

@@ -1,13 +1,12 @@
 //! Keys and signatures of RSA.
 
 use crate::signed::key_rows::KeyRow;
-use diffie_hellman::Group;
-use key_functions::{KeyFunctions, Signed};
+use public_key_cryptography::Group;
 use rsa_keys::{OwnKey, RsaKeyRefusal, RsaKeys, SignatureRefusal, check_signature};
 use std::alloc::Global;
 use x509_algorithms::AlgorithmIdentifier;
 use x509_codec::{from_bytes, to_vec};
-use x509_keys::{PublicKey, RsaPublicKey, SubjectPublicKeyInfo};
+use x509_keys::{KeyFunctions, PublicKey, RsaPublicKey, Signed, SubjectPublicKeyInfo};
 
 /// AlgorithmIdentifier of sha256WithRSAEncryption, with NULL (RFC 4055, section 5).
 const SHA256_WITH_RSA: [u8; 15] = [

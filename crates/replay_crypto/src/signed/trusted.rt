@@ -6,7 +6,7 @@ use anyhow::{Context, bail};
 use cms_signed_data::SignedContent;
 use krb_time::Moment;
 use picky_asn1::wrapper::GeneralStringAsn1;
-use pkinit_trust::{Anchor, ExpectedSigner, JudgedContent, TrustFault, check_trusted};
+use pkinit_validation::{Anchor, ExpectedSigner, JudgedContent, TrustFault, check_trusted};
 use std::alloc::Global;
 use test_support::{KnownKey, verifier};
 use x509_codec::to_vec;

@@ -3,12 +3,12 @@
 use crate::signed::lines::bytes_of;
 use anyhow::bail;
 use cms_signed_data::{SignedContent, SignedFault};
-use key_functions::{KeyFunctions, SignatureAlgorithm};
 use picky_asn1::oid::ObjectIdentifier;
 use std::alloc::Global;
 use test_support::{GivenSignature, signer};
 use x509_algorithms::AlgorithmIdentifier;
 use x509_codec::from_bytes;
+use x509_keys::{KeyFunctions, SignatureAlgorithm};
 
 /// What is to be written, and what comes of it.
 #[derive(Clone, Copy)]

@@ -2,10 +2,9 @@
 
 use anyhow::Context;
 use cdb::ReadAt;
-use krb_account_files::{AccountFile, RealmParameters, realm_of};
 use krb_accounts::Account;
-use krb_file_realms::answer_from;
 use krb_kdc::{Lookup, LookupFault, LookupRefusal};
+use krb_realm_files::{AccountFile, RealmParameters, answer_from, realm_of};
 use krb_time::Moment;
 use picky_asn1::wrapper::{GeneralStringAsn1, OctetStringAsn1};
 use std::alloc::Global;

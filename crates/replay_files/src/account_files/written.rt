@@ -3,12 +3,12 @@
 use super::words::{name_of, octets_of, text_of};
 use anyhow::{Context, bail};
 use cdb::WriteFault;
-use krb_account_files::{NamedAccount, RealmParameters, write_accounts};
 use krb_accounts::{Account, Settings};
 use krb_crypto::{CipherSuite, Key};
+use krb_realm_files::{NamedAccount, RealmParameters, write_accounts};
 use picky_asn1::wrapper::OctetStringAsn1;
-use replay_rows::Row;
 use std::alloc::Global;
+use test_support::Row;
 
 /// Returns the account that a row adds: its name, its suite's number, its kvno, its key and its salt.
 pub(crate) fn named_account(alloc: Global, row: &mut Row<'_>) -> anyhow::Result<NamedAccount> {

@@ -5,11 +5,12 @@
 mod reversed;
 mod texts;
 
-use krb_credential_caches::{CacheFault, CredentialCache};
-use replay_rows::{Row, Rows, Told, replay};
+use krb_file_formats::{CacheFault, CredentialCache};
 pub(crate) use reversed::write_reversed;
 use std::alloc::Global;
 use std::fs;
+use test_support::rows::replay;
+use test_support::{Row, Rows, Told};
 use texts::put_cache;
 
 #[derive(Clone, Copy)]

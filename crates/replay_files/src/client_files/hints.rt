@@ -16,8 +16,9 @@ use krb_client_exchanges::{
 use krb_crypto::CipherSuite;
 use krb_time::Moment;
 use picky_asn1::date::GeneralizedTime;
-use replay_rows::{Row, Rows, replay};
 use std::alloc::Global;
+use test_support::rows::replay;
+use test_support::{Row, Rows};
 use texts::{granted_text, key_text, refused};
 
 /// The nonce of each request, among its random bytes.

@@ -2,9 +2,10 @@
 //! what an independent reader says, and what is written again with the independent writer's octets. `data/keytabs.py` says what the
 //! rows are.
 
-use krb_keytabs::{Keytab, KeytabFault, KeytabRecord};
-use replay_rows::{Row, Rows, Told, replay};
+use krb_file_formats::{Keytab, KeytabFault, KeytabRecord};
 use std::alloc::Global;
+use test_support::rows::replay;
+use test_support::{Row, Rows, Told};
 
 #[derive(Clone, Copy)]
 struct Keytabs;

@@ -1,9 +1,9 @@
 //! The replies of a file's realm.
 
 use anyhow::{Context, bail};
-use krb_file_realms::{AtPath, FileRealm, Silent};
 use krb_frames::{AnswerRefusal, Responder};
 use krb_log::{Entry, Explains, RefusalsOfFile};
+use krb_realm_files::{AtPath, FileRealm, Silent};
 use krb_time::Moment;
 use std::alloc::Global;
 

@@ -4,8 +4,8 @@ use crate::recorded::rows::Rows;
 use crate::recorded::telling::tell_admission;
 use crate::words::start;
 use krb_realm::{Admission, AdmitRefusal, CipherSuite, Service};
-use replay_rows::{Row, Told, components_of};
 use std::alloc::Global;
+use test_support::{Row, Told, components_of};
 
 /// The random bytes of each call.
 const WORDS: [u8; 16] = [0, 1, 2, 3, 4, 5, 6, 7, 8, 9, 10, 11, 12, 13, 14, 15];

@@ -3,8 +3,8 @@
 use crate::recorded::rows::Rows;
 use crate::recorded::runs::tell_stop;
 use krb_settings_kdc::{run_with_arguments, settings_at};
-use replay_rows::{Row, Told};
 use std::alloc::{AllocError, Global};
+use test_support::{Row, Told};
 
 /// Arguments, and the status and the line that a run with them ends with.
 #[derive(Clone, Copy)]

@@ -8,12 +8,12 @@ use crate::stage::{Conditions, Random};
 use crate::told::name_text;
 use crate::words::{holder_of, moment_of, octets_of, second_of, suite_of};
 use anyhow::bail;
+use decision_tables::both;
 use krb_realm::{Anchor, AsAsked, AskRefusal, CipherSuite, Client, Credential, TakeRefusal};
 use picky_asn1_der::to_vec;
-use replay_rows::{Row, Told, components_of};
-use result_pairs::both;
 use std::alloc::Global;
 use std::fs;
+use test_support::{Row, Told, components_of};
 
 /// Clients by name. The columns of a row are divided by tabs.
 #[derive(Drop)]

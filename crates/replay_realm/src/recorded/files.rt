@@ -2,8 +2,8 @@
 
 use crate::recorded::rows::Rows;
 use krb_settings_kdc::{FileCheck, check_file, settings_at};
-use replay_rows::{Row, Told};
 use std::alloc::Global;
+use test_support::{Row, Told};
 
 /// Settings files, each after a line with what is to be said of it: `FILE: ok` and the warnings, or `FILE:LINE:` and the fault.
 #[derive(Clone, Copy)]

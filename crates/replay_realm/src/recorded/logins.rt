@@ -9,13 +9,13 @@ use crate::recorded::rows::Rows;
 use crate::recorded::telling::tell_login;
 use crate::stage::Random;
 use crate::words::{moment_of, octets_of, second_of, start, suite_of};
+use decision_tables::{both, if_passed};
 use krb_realm::{
     Admission, CipherSuite, Client, EncryptionKey, GeneralizedTime, KeyFunctions, LoginInput,
     LoginMoments, LoginRefusal, Realm, Service, login_by_certificate,
 };
-use replay_rows::{Row, Told, components_of};
-use result_pairs::{both, if_passed};
 use std::alloc::Global;
+use test_support::{Row, Told, components_of};
 
 /// Logins. The columns of a row are divided by tabs, and the words of a column by spaces.
 #[derive(Clone, Copy)]

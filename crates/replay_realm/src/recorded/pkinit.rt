@@ -6,11 +6,11 @@ use crate::recorded::replies::{WORDS, realm_with, tell_reply};
 use crate::recorded::rows::Rows;
 use crate::words::{given, moment_of, octets_of};
 use anyhow::bail;
+use decision_tables::both;
 use krb_realm::{Anchor, Moment, Realm, Settings};
-use replay_rows::{Row, Told};
-use result_pairs::both;
 use std::alloc::Global;
 use std::fs;
+use test_support::{Row, Told};
 
 /// Realms by name. Columns of a row are divided by tabs.
 #[derive(Drop)]

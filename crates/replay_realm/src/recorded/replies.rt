@@ -3,10 +3,10 @@
 use crate::recorded::rows::Rows;
 use crate::stage::Random;
 use crate::words::start;
+use decision_tables::if_passed;
 use krb_realm::{AnswerRefusal, CipherSuite, NoKeys, Realm, Settings};
-use replay_rows::{Row, Told, components_of};
-use result_pairs::if_passed;
 use std::alloc::Global;
+use test_support::{Row, Told, components_of};
 
 /// The random bytes of each reply: 0 to 127.
 pub(crate) const WORDS: Random = Random { first: 0, step: 1 };

@@ -1,8 +1,8 @@
 //! Going over the rows of a file.
 
-use replay_rows::{Row, Told};
-use result_pairs::both;
+use decision_tables::both;
 use std::fs;
+use test_support::{Row, Told};
 
 /// What the rows of a file say.
 pub(crate) trait Rows {

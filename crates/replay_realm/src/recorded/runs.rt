@@ -3,8 +3,8 @@
 use crate::recorded::rows::Rows;
 use krb_realm::Moment;
 use krb_settings_kdc::{PROGRAM, Stop, run_settings};
-use replay_rows::{Row, Told};
 use std::alloc::Global;
+use test_support::{Row, Told};
 
 /// Runs with settings, random bytes, moment and standard input, each in a column, and what is expected of them: status, line and
 /// output.

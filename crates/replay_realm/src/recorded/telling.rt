@@ -2,7 +2,7 @@
 
 use crate::told::{key_text, key_type_text, name_text};
 use krb_realm::{Admission, EncryptionKey};
-use replay_rows::Told;
+use test_support::Told;
 
 /// Writes the client, the session key, the subkey and the reply of an admission.
 pub(crate) fn tell_admission(told: &mut Told, admission: &Admission) {

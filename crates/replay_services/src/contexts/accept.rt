@@ -4,13 +4,13 @@
 use super::call::{Call, suite_of};
 use super::{Ends, is_named};
 use anyhow::{Context, bail};
-use byte_layouts::array_at;
+use byte_streams::array_at;
 use gss_acceptor::{Accepted, Acceptor, AcceptorTerms, Continuation, Established};
 use krb_crypto::CipherSuite;
 use krb_service::Service;
 use krb_time::Moment;
-use replay_rows::Told;
 use std::alloc::Global;
+use test_support::Told;
 
 /// Begins an acceptor, which has seen nothing, in place of the last one.
 pub(crate) fn begins(

@@ -1,8 +1,8 @@
 //! Lines of the files: `CALL EXPECTED WORDS .. | OCTETS ..`.
 
 use krb_crypto::CipherSuite;
-use replay_rows::Row;
 use std::alloc::Global;
+use test_support::Row;
 
 #[derive(Drop)]
 pub(crate) struct Call<'a> {

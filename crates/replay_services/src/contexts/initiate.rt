@@ -5,20 +5,20 @@ ghost use Rattle.std.specs.Prelude.{◌≤◌, length};
 use super::call::{Call, suite_of};
 use super::{Ends, is_named};
 use anyhow::{Context, bail};
+use decision_tables::both;
 use gss_acceptor::{ContextFlags, InitialChecksum};
 use gss_initiator::{
     InitiateRefusal, Initiated, NO_BINDINGS, Progress, Taken, TokenForm, bindings_of, initiate,
 };
 use krb_client::{Client, Credential, TicketTimes};
 use krb_crypto::{CipherSuite, Key};
+use krb_messages::data_types::{KerberosFlags, Ticket};
 use krb_time::Moment;
-use krb_types::data_types::{KerberosFlags, Ticket};
 use picky_asn1::date::GeneralizedTime;
 use picky_asn1::wrapper::BitStringAsn1;
 use picky_asn1_der::from_bytes;
-use replay_rows::{Row, components_of};
-use result_pairs::both;
 use std::alloc::{AllocError, Global};
+use test_support::{Row, components_of};
 
 /// What a line chooses of a context.
 #[derive(Clone, Copy)]

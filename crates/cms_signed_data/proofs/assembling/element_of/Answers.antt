@@ -1,5 +1,5 @@
 use Rattle.std.proofs.Common.{ℕ, List, ap, ◌∙◌}
-use Rattle.asn1_elements.specs.Raw.{Raw}
+use Rattle.picky_asn1_der.specs.Raw.{Raw}
 use Rattle.cms_signed_data.proofs.AroundLemmas.{raw_written}
 use Rattle.cms_signed_data.proofs.assembling.element_of.Goals as goal
 

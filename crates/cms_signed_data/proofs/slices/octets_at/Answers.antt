@@ -1,7 +1,7 @@
 use Rattle.std.proofs.Common.{ℕ, List, subst}
 use Rattle.asn1_der.specs.Length.{element}
-use Rattle.asn1_elements.specs.Parts.{IsPart}
-use Rattle.asn1_elements.specs.PartLaws.{part-one}
+use Rattle.picky_asn1_der.specs.Parts.{IsPart}
+use Rattle.picky_asn1_der.specs.PartLaws.{part-one}
 use Rattle.cms_signed_data.proofs.slices.octets_at.Goals as goal
 
 pub returns-in_default : goal.returns-in_default

@@ -2,7 +2,7 @@ use Rattle.std.proofs.Common.{SFits, ℤ, Ok, Err, subst, w32}
 use Rattle.std.specs.Int.{cast_unsigned}
 use Rattle.std.proofs.lemmas.Int.{to_z-of_z}
 use Rattle.std.proofs.lemmas.Result.{err_from_is_err_and}
-use Rattle.krb_types.specs.Refusals.{IsJudged}
+use Rattle.krb_messages.specs.Refusals.{IsJudged}
 use Rattle.krb_ap_requests.specs.ApTable.{authenticated}
 use Rattle.krb_ap_requests.specs.declared.presented.Authenticated.{Authenticated}
 use Rattle.krb_ap_requests.proofs.Judged.{told_by, unopened, untold}

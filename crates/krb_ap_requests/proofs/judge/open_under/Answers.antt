@@ -1,6 +1,6 @@
 use Rattle.std.proofs.Common.{SFits, refl, sym, inl, inr, w32, ◌∙◌}
 use Rattle.std.proofs.lemmas.Int.{to_z-of_z}
-use Rattle.krb_encrypted_data.proofs.FoundKeys.{key_found, no_key_found}
+use Rattle.krb_tickets.proofs.FoundKeys.{key_found, no_key_found}
 use Rattle.krb_ap_requests.proofs.judge.open_under.Goals as goal
 
 pub returns-in_default : goal.returns-in_default

@@ -1,5 +1,5 @@
 use Rattle.krb_commands.proofs.Named.{unnamed_as}
-use Rattle.krb_types.specs.NameReading.{principal_in}
+use Rattle.krb_messages.specs.NameReading.{principal_in}
 use Rattle.krb_commands.proofs.arguments.principal_in.Goals as goal
 
 pub returns-in-Err-clause-err : goal.returns-in-Err-clause-err

@@ -1,9 +1,9 @@
 use Rattle.std.proofs.Common.{sym, ◌∙◌}
-use Rattle.krb_kdc_requests.specs.Call.{call_of}
+use Rattle.krb_kdc_exchanges.specs.Call.{call_of}
 use Rattle.krb_kdc.specs.Calls.{call_with}
 use Rattle.krb_kdc.proofs.Answered.{as_replied, tgs_replied, unread}
 use Rattle.krb_kdc.proofs.Refused.{no_answer, refused}
-use Rattle.krb_replies.specs.Replies.{Replies}
+use Rattle.krb_kdc_exchanges.specs.Replies.{Replies}
 use Rattle.krb_kdc.proofs.answer.answer_by.Goals as goal
 
 pub returns-then-not-begins_request-clause-answer : goal.returns-then-not-begins_request-clause-answer

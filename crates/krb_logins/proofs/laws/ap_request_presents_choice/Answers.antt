@@ -1,4 +1,4 @@
-use Rattle.krb_types.specs.RandomBytes.{authenticator_confounder}
+use Rattle.krb_messages.specs.RandomBytes.{authenticator_confounder}
 use Rattle.krb_crypto.specs.Suites.{cipher_confounder_size}
 use Rattle.krb_ap_requests.proofs.Presentations.{one_request}
 use Rattle.krb_logins.specs.Choices.{choice_by}

@@ -1,5 +1,5 @@
-use Rattle.krb_replies.proofs.HasReply.{has_reply}
-use Rattle.pkinit_requests.specs.PkinitRows.{pkinit_rows}
+use Rattle.krb_kdc_exchanges.proofs.HasReply.{has_reply}
+use Rattle.pkinit_validation.specs.PkinitRows.{pkinit_rows}
 use Rattle.krb_memory_realms.proofs.laws.has_reply.Goals as goal
 
 pub returns : goal.returns

@@ -1,5 +1,5 @@
-use Rattle.krb_replies.specs.Replies.{one_reply}
-use Rattle.pkinit_requests.specs.PkinitRows.{pkinit_rows}
+use Rattle.krb_kdc_exchanges.specs.Replies.{one_reply}
+use Rattle.pkinit_validation.specs.PkinitRows.{pkinit_rows}
 use Rattle.krb_memory_realms.proofs.laws.one_reply.Goals as goal
 
 pub returns : goal.returns

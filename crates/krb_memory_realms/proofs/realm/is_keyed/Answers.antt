@@ -1,5 +1,5 @@
 use Rattle.std.proofs.Common.{◌≡◌, length, ap, subst, sym, ◌∙◌}
-use Rattle.aes_cts.specs.Bytes.{IsBytes}
+use Rattle.block_ciphers.specs.Bytes.{IsBytes}
 use Rattle.krb_crypto.specs.Keys.{KeyRecord}
 use Rattle.krb_crypto.specs.Suites.{cipher_key_size}
 use Rattle.krb_memory_realms.proofs.realm.is_keyed.Goals as goal

@@ -1,5 +1,5 @@
 use Rattle.krb_logins.proofs.EndsWithOneKey.{ends_with_one_key}
-use Rattle.pkinit_requests.specs.PkinitRows.{pkinit_rows}
+use Rattle.pkinit_validation.specs.PkinitRows.{pkinit_rows}
 use Rattle.pkinit_clients.specs.Means.{by_certificate}
 use Rattle.krb_realm.proofs.ByCertificate.{met_by_certificate}
 use Rattle.krb_realm.proofs.certified_laws.one_key_by_certificate.Goals as goal

@@ -1,5 +1,5 @@
-use Rattle.krb_kdc_requests.specs.Call.{call_of, pkinit_call}
-use Rattle.pkinit_requests.specs.Trust.{trust_of}
+use Rattle.krb_kdc_exchanges.specs.Call.{call_of, pkinit_call}
+use Rattle.pkinit_validation.specs.Trust.{trust_of}
 use Rattle.krb_realm.specs.ExchangeMeans.{asked_at}
 use Rattle.krb_realm.proofs.Honesty.{honest_by}
 use Rattle.krb_realm.proofs.exchange.is_honest_by.Goals as goal

@@ -1,5 +1,5 @@
 use Rattle.std.proofs.Common.{ap, sym, ◌∙◌}
-use Rattle.krb_kdc_requests.specs.Call.{CallRecord}
+use Rattle.krb_kdc_exchanges.specs.Call.{CallRecord}
 use Rattle.krb_logins.specs.Input.{held_by, login_of}
 use Rattle.krb_realm.specs.HeldClients.{client_by}
 use Rattle.krb_realm.proofs.HonestParties.{honest_as}

@@ -1,8 +1,8 @@
 use Rattle.std.proofs.Common.{subst, sym}
 use Rattle.krb_logins.specs.LoginRun.{LoginRun}
 use Rattle.krb_realm.specs.Clients.{means_of}
-use Rattle.pkinit_requests.specs.Trust.{trust_of}
-use Rattle.pkinit_requests.specs.PkinitRows.{pkinit_rows}
+use Rattle.pkinit_validation.specs.Trust.{trust_of}
+use Rattle.pkinit_validation.specs.PkinitRows.{pkinit_rows}
 use Rattle.krb_logins.specs.Steps.{AreDecided}
 use Rattle.krb_memory_realms.proofs.Answered.{same_rows}
 use Rattle.krb_realm.proofs.ClientMeans.{are_decided, same_means}

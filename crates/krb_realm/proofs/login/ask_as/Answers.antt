@@ -3,7 +3,7 @@ use Rattle.krb_logins.specs.Input.{login_of}
 use Rattle.krb_logins.specs.declared.refusal.LoginRefusal.TheVariants.{Asked}
 use Rattle.krb_realm.specs.Logins.{AsAsk}
 use Rattle.krb_realm.proofs.Asking.{asked, no_memory, unasked}
-use Rattle.krb_ap_exchange.proofs.StepEnds.{told_as}
+use Rattle.krb_logins.proofs.StepEnds.{told_as}
 use Rattle.krb_realm.proofs.login.ask_as.Goals as goal
 
 pub returns-in_default : goal.returns-in_default

@@ -1,4 +1,4 @@
-use Rattle.key_functions.specs.KeyFunctions.{no_functions}
+use Rattle.x509_keys.specs.KeyFunctions.{no_functions}
 use Rattle.krb_logins.specs.Input.{login_of}
 use Rattle.krb_realm.specs.Logins.{realm_record}
 use Rattle.krb_memory_realms.proofs.Answered.{same_rows}

@@ -1,9 +1,9 @@
 use Rattle.std.proofs.Common.{refl}
 use Rattle.krb_logins.specs.Input.{login_of}
 use Rattle.krb_realm.specs.Logins.{realm_record, realm_rows}
-use Rattle.krb_ap_exchange.specs.ApExchanges.{remembered}
+use Rattle.krb_logins.specs.ApExchanges.{remembered}
 use Rattle.krb_realm.proofs.LoginEnds.{by_credential, no_credential}
-use Rattle.krb_ap_exchange.proofs.StepEnds.{exit_of}
+use Rattle.krb_logins.proofs.StepEnds.{exit_of}
 use Rattle.krb_realm.proofs.login.login.Goals as goal
 
 pub returns-in_err-credential-clause-run : goal.returns-in_err-credential-clause-run

@@ -3,7 +3,7 @@ use Rattle.krb_realm.specs.Clients.{means_of}
 use Rattle.krb_realm.specs.HeldClients.{client_by}
 use Rattle.krb_realm.specs.Clients.{means_by}
 use Rattle.krb_realm.specs.Logins.{realm_record, realm_rows}
-use Rattle.krb_ap_exchange.specs.ApExchanges.{remembered}
+use Rattle.krb_logins.specs.ApExchanges.{remembered}
 use Rattle.krb_realm.proofs.ClientMeans.{same_means}
 use Rattle.krb_realm.proofs.LoginMeans.{run_as}
 use Rattle.krb_realm.proofs.login.login_by_certificate.Goals as goal

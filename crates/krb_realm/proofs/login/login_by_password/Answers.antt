@@ -1,9 +1,9 @@
-use Rattle.key_functions.specs.KeyFunctions.{no_functions}
+use Rattle.x509_keys.specs.KeyFunctions.{no_functions}
 use Rattle.krb_logins.specs.Input.{login_of}
 use Rattle.krb_realm.specs.Clients.{means_by, means_of}
 use Rattle.krb_realm.specs.HeldClients.{client_by}
 use Rattle.krb_realm.specs.Logins.{realm_record, realm_rows}
-use Rattle.krb_ap_exchange.specs.ApExchanges.{remembered}
+use Rattle.krb_logins.specs.ApExchanges.{remembered}
 use Rattle.krb_realm.proofs.ClientMeans.{same_means}
 use Rattle.krb_realm.proofs.LoginMeans.{run_as}
 use Rattle.krb_realm.proofs.login.login_by_password.Goals as goal

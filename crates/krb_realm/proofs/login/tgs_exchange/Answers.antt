@@ -1,7 +1,7 @@
 use Rattle.krb_logins.specs.Input.{login_of}
 use Rattle.krb_realm.specs.Logins.{realm_record, realm_rows}
 use Rattle.krb_realm.proofs.Exchanges.{tgs_replied, tgs_unanswered, tgs_unasked}
-use Rattle.krb_ap_exchange.proofs.StepEnds.{exit_of}
+use Rattle.krb_logins.proofs.StepEnds.{exit_of}
 use Rattle.krb_realm.proofs.login.tgs_exchange.Goals as goal
 
 pub returns-in_err-request : goal.returns-in_err-request

@@ -1,7 +1,7 @@
 use Rattle.std.proofs.Common.{◌≡◌, ◌∙◌}
 use Rattle.asn1_der.specs.Tree.{der}
 use Rattle.krb_crypto.specs.Suites.{cipher_confounder_size}
-use Rattle.krb_types.specs.RandomBytes.{ap_reply_confounder}
+use Rattle.krb_messages.specs.RandomBytes.{ap_reply_confounder}
 use Rattle.krb_messages.specs.Messages.{enc_ap_rep_part_tree}
 use Rattle.krb_service.specs.ApReply.{ap_rep_part_with}
 use Rattle.krb_service.proofs.reply.ap_reply.Goals as goal

@@ -1,6 +1,6 @@
 use Rattle.std.proofs.Common.{sym, ◌∙◌}
 use Rattle.asn1_codec.proofs.Chain.{at-exit}
-use Rattle.asn1_elements.proofs.Splits.{not_one, not_all, some_left, content_fits, held_parts}
+use Rattle.picky_asn1_der.proofs.Splits.{not_one, not_all, some_left, content_fits, held_parts}
 use Rattle.picky_asn1_der.proofs.raw_der.one_element.Goals as goal
 
 pub returns-in_err-element : goal.returns-in_err-element

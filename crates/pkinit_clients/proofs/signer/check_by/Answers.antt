@@ -1,4 +1,4 @@
-use Rattle.pkinit_trust.specs.Expected.{expected_of}
+use Rattle.pkinit_validation.specs.Expected.{expected_of}
 use Rattle.pkinit_clients.proofs.SignerLemmas.{refused_as, signed}
 use Rattle.pkinit_clients.proofs.signer.check_by.Goals as goal
 

@@ -1,6 +1,6 @@
 //! A cache of our own, which stock programs read.
 
-use krb_credential_caches::CredentialCache;
+use krb_file_formats::CredentialCache;
 use std::fs;
 use std::io::Write;
 

@@ -1,9 +1,9 @@
 //! The text of a cache: names and octets in hexadecimal, and numbers. Of a ticket it has the length.
 
-use krb_credential_caches::{
+use krb_file_formats::{
     CachePrincipal, CachedCredential, CredentialCache, CredentialTimes, TypedOctets,
 };
-use replay_rows::Told;
+use test_support::Told;
 
 /// Writes a cache.
 pub(crate) fn put_cache(text: &mut Told, cache: &CredentialCache) {

@@ -1,6 +1,6 @@
 use Rattle.std.proofs.Common.{sym}
 use Rattle.std.specs.Option.{option_map}
-use Rattle.key_functions.specs.KeyFunctions.{theirs_of}
+use Rattle.x509_keys.specs.KeyFunctions.{theirs_of}
 use Rattle.rsa_keys.proofs.Values.{found_theirs, if_as, none_found, of_theirs}
 use Rattle.rsa_keys.proofs.agreement.agreed.Goals as goal
 

@@ -1,4 +1,4 @@
-use Rattle.key_functions.specs.KeyFunctions.TheirValue.{ValueBits}
+use Rattle.x509_keys.specs.KeyFunctions.TheirValue.{ValueBits}
 use Rattle.rsa_keys.proofs.Values.{bits_refused, bits_theirs, if_refused}
 use Rattle.rsa_keys.proofs.agreement.bits_in.Goals as goal
 

@@ -1,4 +1,4 @@
-use Rattle.key_functions.specs.KeyFunctions.TheirValue.{WholeValue}
+use Rattle.x509_keys.specs.KeyFunctions.TheirValue.{WholeValue}
 use Rattle.rsa_keys.proofs.Values.{if_refused, if_same, whole_refused}
 use Rattle.rsa_keys.proofs.agreement.whole_in.Goals as goal
 

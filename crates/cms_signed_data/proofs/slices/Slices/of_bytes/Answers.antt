@@ -1,4 +1,4 @@
-use Rattle.asn1_elements.specs.PathLaws.{part_there}
+use Rattle.picky_asn1_der.specs.PathLaws.{part_there}
 use Rattle.cms_signed_data.specs.Parts.{content_place, certificate_place, attributes_place, digest_place, signature_place, parts_held}
 use Rattle.cms_signed_data.specs.SignedParts.{content_of, digest_of, signature_of}
 use Rattle.cms_signed_data.proofs.ReadLemmas.{same_octets}

@@ -1,6 +1,6 @@
 use Rattle.std.proofs.Common.{◌≡◌, ◌++◌, length, ap, sym, ◌∙◌, rules, inr, w32, SFits}
 use Rattle.std.proofs.lemmas.Int.{to_z-of_z}
-use Rattle.byte_layouts.specs.Numbers.{be16_at}
+use Rattle.byte_streams.specs.Numbers.{be16_at}
 use Rattle.gss_contexts.specs.Contexts.{peer_of}
 use Rattle.gss_contexts.specs.Tokens.{seal_usage}
 use Rattle.gss_contexts.proofs.Ends.{ne-true}

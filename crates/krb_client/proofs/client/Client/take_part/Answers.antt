@@ -1,8 +1,8 @@
 use Rattle.std.proofs.Common.{◌≡◌, Ok, not, sym, ap, ◌∙◌}
 use Rattle.decision_tables.specs.Tables.{done, need}
-use Rattle.krb_encrypted_data.specs.Keys.{suite_of}
-use Rattle.krb_encrypted_data.proofs.FoundKeys.{key_found}
-use Rattle.krb_reply_match.specs.Answers.{is_answer}
+use Rattle.krb_tickets.specs.Keys.{suite_of}
+use Rattle.krb_tickets.proofs.FoundKeys.{key_found}
+use Rattle.krb_tickets.specs.Answers.{is_answer}
 use Rattle.krb_client.specs.Taking.{credential_of}
 use Rattle.krb_client.specs.declared.refusal.TakeRefusal.TheVariants.{NotAsked}
 use Rattle.krb_client.proofs.Outcomes.{needed, passed}

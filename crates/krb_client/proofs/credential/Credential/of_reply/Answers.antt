@@ -1,5 +1,5 @@
 use Rattle.std.proofs.Common.{sym}
-use Rattle.krb_encrypted_data.proofs.FoundKeys.{key_found}
+use Rattle.krb_tickets.proofs.FoundKeys.{key_found}
 use Rattle.krb_client.proofs.credential.Credential.of_reply.Goals as goal
 
 pub with_key-requires : goal.with_key-requires

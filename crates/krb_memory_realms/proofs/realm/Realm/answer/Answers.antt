@@ -1,7 +1,7 @@
 use Rattle.std.proofs.Common.{Ok, Err, refl}
 use Rattle.krb_accounts.specs.Accounts.{look_in}
-use Rattle.krb_replies.specs.Replies.{Replies}
-use Rattle.pkinit_requests.specs.PkinitRows.{pkinit_rows}
+use Rattle.krb_kdc_exchanges.specs.Replies.{Replies}
+use Rattle.pkinit_validation.specs.PkinitRows.{pkinit_rows}
 use Rattle.krb_memory_realms.specs.Realm.{call_to}
 use Rattle.krb_memory_realms.proofs.Answered.{begins, of_own, refused, same_rows}
 use Rattle.krb_memory_realms.proofs.realm.Realm.answer.Goals as goal

@@ -2,9 +2,9 @@ use Rattle.std.proofs.Common.{Err, subst}
 use Rattle.std.proofs.lemmas.Result.{err_from_is_err_and}
 use Rattle.krb_ap_requests.specs.ApTable.{presented, valid_part}
 use Rattle.krb_ap_requests.specs.Entry.{EntryRecord}
-use Rattle.krb_types.specs.Refusals.{IsJudged}
-use Rattle.krb_types.specs.declared.data_types.enc_ticket_part.EncTicketPartInner.{EncTicketPartInner}
-use Rattle.krb_types.specs.declared.data_types.encrypted_data.EncryptedData.{EncryptedData}
+use Rattle.krb_messages.specs.Refusals.{IsJudged}
+use Rattle.krb_messages.specs.declared.data_types.enc_ticket_part.EncTicketPartInner.{EncTicketPartInner}
+use Rattle.krb_messages.specs.declared.data_types.encrypted_data.EncryptedData.{EncryptedData}
 use Rattle.krb_ap_requests.specs.declared.presented.Presented.{Presented}
 use Rattle.krb_ap_requests.proofs.Judged.{recipient_refused, ticket_held, ticket_refused}
 use Rattle.krb_service.proofs.entry.KeytabEntry.judge.Goals as goal

@@ -1,4 +1,4 @@
-use Rattle.byte_layouts.proofs.Exits.{at-exit}
+use Rattle.byte_streams.proofs.Exits.{at-exit}
 use Rattle.negoex_messages.proofs.WholeFront.{whole-front}
 use Rattle.negoex_messages.proofs.data_type.NegoexDataType.encode_with_payload.Goals as goal
 

@@ -1,6 +1,6 @@
 use Rattle.std.proofs.Common.{[], ap, sym, ◌∙◌, inr, arith, append-nil}
 use Rattle.std.proofs.lemmas.Grind.{common_steps}
-use Rattle.asn1_elements.specs.Raw.{raw_tree}
+use Rattle.picky_asn1_der.specs.Raw.{raw_tree}
 use Rattle.asn1_codec.specs.Reading.{IsSpelling, IsElement}
 use Rattle.asn1_codec.proofs.Chain.{at-exit, refused-as, refused-own, refused-known, refused-unread}
 use Rattle.picky_asn1_der.proofs.ChoiceLemmas.{spelled_octets}

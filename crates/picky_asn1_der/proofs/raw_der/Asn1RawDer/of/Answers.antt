@@ -1,6 +1,6 @@
 use Rattle.std.proofs.Common.{◌≡◌, ◌∷◌, ◌++◌, [], length, arith, ap, ◌∙◌}
 use Rattle.asn1_der.specs.Length.{length_octets}
-use Rattle.asn1_elements.proofs.Splits.{made}
+use Rattle.picky_asn1_der.proofs.Splits.{made}
 use Rattle.picky_asn1_der.proofs.raw_der.Asn1RawDer.of.Goals as goal
 
 pub invariant_of-result : goal.invariant_of-result

@@ -1,7 +1,0 @@
-use Rattle.std.proofs.Common.{refl}
-use Rattle.aes_cts.specs.Bytes.{sum_of_bytes}
-use Rattle.aes_cts.proofs.aes.block.add_blocks.Goals as goal
-
-pub returns : goal.returns
-unfolding sum_of_bytes
-returns c = refl

@@ -1,7 +1,0 @@
-use Rattle.std.proofs.Common.{refl}
-use Rattle.aes_cts.specs.Words.{bytes_of}
-use Rattle.aes_cts.proofs.aes.columns.Columns.bytes.Goals as goal
-
-pub returns : goal.returns
-unfolding bytes_of
-returns c = rw (c.to_be_bytes-a.ensures, c.to_be_bytes-b.ensures, c.to_be_bytes-c.ensures, c.to_be_bytes-d.ensures) refl

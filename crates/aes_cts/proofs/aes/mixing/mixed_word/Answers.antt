@@ -1,5 +1,0 @@
-use Rattle.aes_cts.proofs.Columns.{mixed_column}
-use Rattle.aes_cts.proofs.aes.mixing.mixed_word.Goals as goal
-
-pub returns : goal.returns
-returns c = mixed_column c.args.key c.args.a c.args.b c.args.c c.args.d c.ranges.a.fits c.ranges.b.fits c.ranges.c.fits c.ranges.d.fits

@@ -1,6 +1,0 @@
-use Rattle.std.proofs.Common.{◌≡◌, ◌*◌, length, take}
-use Rattle.aes_cts.specs.Words.{bytes_of}
-use Rattle.aes_cts.proofs.aes.schedule.begun_words.Given as goal
-
-abbrev pub invariant-loop-i : goal.invariant-loop-i
-invariant-loop-i l = record { long : length l.words ≡ 60; so_far : bytes_of (take l.i l.words) ≡ take (4 * l.i) l.key }

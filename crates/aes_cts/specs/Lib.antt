@@ -1,9 +1,0 @@
-pub mod Bytes
-pub mod Field
-pub mod Aes
-pub mod Words
-pub mod Expanded
-pub mod AesSize
-pub mod Chains
-pub mod Worked
-pub mod Numbers

@@ -1,4 +1,0 @@
-pub mod ApMessages
-pub mod Copied
-pub mod PkAsReps
-pub mod Wrapped

@@ -1,4 +1,0 @@
-pub mod Peeks
-pub mod Splits
-pub mod Streams
-mod PathLemmas

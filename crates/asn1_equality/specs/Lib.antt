@@ -1,3 +1,0 @@
-pub mod Equalities
-pub mod Views
-pub mod Wrapped

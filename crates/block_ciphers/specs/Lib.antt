@@ -1,0 +1,16 @@
+pub mod Bytes
+pub mod Field
+pub mod Aes
+pub mod Words
+pub mod Expanded
+pub mod AesSize
+pub mod Chains
+pub mod Worked
+pub mod Numbers
+pub mod Bits
+pub mod Tables
+pub mod Des
+pub mod Places
+pub mod Schedule
+pub mod Seeds
+pub mod WorkedDes

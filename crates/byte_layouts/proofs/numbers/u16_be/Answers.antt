@@ -1,9 +1,0 @@
-use Rattle.std.proofs.Common.{ap, ◌∙◌, arith}
-use Rattle.byteorder.specs.Endian.{big_number}
-use Rattle.byte_layouts.proofs.NumberLaws.{be16-stands, all-behind}
-use Rattle.byte_layouts.proofs.numbers.u16_be.Goals as goal
-
-pub returns-clause-stands : goal.returns-clause-stands
-returns-clause-stands c =
-    be16-stands c.args.place _ c.args.bytes.now (λ i. omega (arith, c.type_inv.bytes i)) c.requires
-    (c.read_u16.ensures ∙ ap (big_number 2) (all-behind c.args.place c.args.bytes.now))

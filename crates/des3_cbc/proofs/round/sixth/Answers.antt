@@ -1,6 +1,0 @@
-use Rattle.std.proofs.Common.{◌∙◌}
-use Rattle.des3_cbc.proofs.Boxes.{sixth_bits}
-use Rattle.des3_cbc.proofs.round.sixth.Goals as goal
-
-pub returns-clause-bits : goal.returns-clause-bits
-returns-clause-bits c = sixth_bits c.args.right c.args.key c.args.k c.from.result c.ranges.right.fits c.requires (c.from.ensures ∙ c.rotate_left.ensures)

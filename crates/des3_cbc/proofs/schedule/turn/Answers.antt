@@ -1,5 +1,0 @@
-use Rattle.des3_cbc.proofs.Turns.{turned_half}
-use Rattle.des3_cbc.proofs.schedule.turn.Goals as goal
-
-pub returns-clause-turned : goal.returns-clause-turned
-returns-clause-turned c = turned_half c.args.places c.args.string c.requires.small c.requires.some c.requires.few

@@ -1,8 +1,0 @@
-use Rattle.des3_cbc.proofs.SeedLemmas.{mended_weak, mended_other}
-use Rattle.des3_cbc.proofs.seed.mended.Goals as goal
-
-pub returns-then-is_weak : goal.returns-then-is_weak
-returns-then-is_weak c = mended_weak c.args.key c.is_weak.result c.is_weak.ensures c.if-is_weak.true
-
-pub returns-else-is_weak : goal.returns-else-is_weak
-returns-else-is_weak c = mended_other c.args.key c.is_weak.result c.is_weak.ensures c.if-is_weak.false

@@ -1,0 +1,15 @@
+pub mod Derivation
+pub mod Profile
+pub mod Sealing
+pub mod Hmac
+pub mod Kdf
+pub mod NFold
+pub mod NFoldSteps
+pub mod Pbkdf2
+pub mod AesDerivation
+pub mod AesSuites
+pub mod Des3Derivation
+pub mod Suite
+pub mod Worked
+pub mod AesSha2Derivation
+pub mod AesSha2Suites

@@ -1,0 +1,3 @@
+pub mod ViewLemmas
+pub mod SeenLaws
+pub mod Seeing

@@ -1,9 +1,0 @@
-use Rattle.std.proofs.Common.{sym, subst}
-use Rattle.gss_context_tokens.specs.Refusals.{IsUnread}
-use Rattle.gss_context_tokens.proofs.Unread.{unread-whole}
-use Rattle.gss_context_tokens.proofs.content.whole_value.Goals as goal
-
-pub returns-in-Err : goal.returns-in-Err
-returns-in-Err g c =
-    let t = g.T.FromDer in
-    subst (IsUnread (λ v. t.reads v c.args.bytes.now)) (sym c.token_fault.ensures) (unread-whole t.seen t.reads c.args.bytes.now c.in-Err.fault c.in-Err.ensures.value)

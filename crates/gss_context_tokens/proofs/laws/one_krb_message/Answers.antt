@@ -1,5 +1,0 @@
-use Rattle.gss_context_tokens.proofs.MessageLaws.{message-one}
-use Rattle.gss_context_tokens.proofs.laws.one_krb_message.Goals as goal
-
-pub returns : goal.returns
-returns g c = message-one g.T.FromDer.seen g.T.FromDer.reads g.T.FromDer.one_value

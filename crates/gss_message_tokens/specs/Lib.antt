@@ -1,5 +1,0 @@
-pub mod Faults
-pub mod Integrity
-pub mod Judging
-pub mod Refusals
-pub mod Tokens

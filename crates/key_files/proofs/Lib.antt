@@ -1,3 +1,0 @@
-mod Boundaries
-mod Holding
-mod Keys

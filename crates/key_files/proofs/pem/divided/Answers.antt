@@ -1,5 +1,0 @@
-use Rattle.key_files.proofs.Boundaries.{divided}
-use Rattle.key_files.proofs.pem.divided.Goals as goal
-
-pub returns : goal.returns
-returns c = divided c.args.boundary.now c.args.text.now c.split_once.result c.split_once.ensures.cases

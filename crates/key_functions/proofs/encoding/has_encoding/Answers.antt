@@ -1,6 +1,0 @@
-use Rattle.key_functions.proofs.Encoded.{encoded}
-use Rattle.key_functions.proofs.encoding.has_encoding.Goals as goal
-
-pub returns : goal.returns
-returns c =
-    encoded c.args.algorithm.now c.oid.result.now c.parameters.result.now c.oid.ensures c.as_bytes-octets.ensures.valid c.parameters.ensures c.hold_curve.ensures

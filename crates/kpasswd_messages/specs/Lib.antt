@@ -1,4 +1,0 @@
-pub mod Frames
-pub mod Reading
-pub mod Writing
-pub mod ApMessages

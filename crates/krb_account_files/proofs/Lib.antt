@@ -1,7 +1,0 @@
-mod Numbered
-mod Again
-mod RealmAgain
-mod Said
-mod Written
-mod Keyed
-mod Fitting

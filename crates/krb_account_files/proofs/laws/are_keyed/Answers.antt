@@ -1,5 +1,0 @@
-use Rattle.krb_account_files.proofs.Keyed.{are_keyed}
-use Rattle.krb_account_files.proofs.laws.are_keyed.Goals as goal
-
-pub returns : goal.returns
-returns c = are_keyed

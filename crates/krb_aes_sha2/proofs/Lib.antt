@@ -1,2 +1,0 @@
-pub mod Macs
-pub mod Sha2Laws

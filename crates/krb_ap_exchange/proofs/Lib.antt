@@ -1,2 +1,0 @@
-mod Admitting
-pub mod StepEnds

@@ -1,3 +1,0 @@
-pub mod Preauthentication
-pub mod Grants
-pub mod AsTable

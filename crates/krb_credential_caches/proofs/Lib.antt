@@ -1,4 +1,0 @@
-pub mod FormatLaws
-pub mod ListLaws
-pub mod CacheLaws
-pub mod WritingLaws

@@ -1,6 +1,0 @@
-pub mod KeySizes
-pub mod FoundKeys
-pub mod Opening
-mod PaddedTexts
-pub mod Reading
-mod Opened

@@ -1,7 +1,0 @@
-use Rattle.std.proofs.Common.{sym, ◌∙◌}
-use Rattle.krb_encrypted_data.proofs.KeySizes.{made_key}
-use Rattle.krb_encrypted_data.proofs.keys.key_of.Goals as goal
-
-pub returns : goal.returns
-returns c =
-    c.ok.ensures.value ∙ made_key c.args.key.now c.in_ok-suite.suite _ c.new.result (sym c.in_ok-suite.ensures) c.as_bytes.ensures c.new.ensures.fits c.new.ensures.made

@@ -1,5 +1,0 @@
-pub mod Padded
-pub mod Opens
-pub mod Keys
-pub mod Sealed
-pub mod Sealing

@@ -1,0 +1,12 @@
+pub mod NumberLaws
+pub mod PlaceLaws
+pub mod AgainLaws
+pub mod LoopLaws
+pub mod PieceLaws
+pub mod FoundLaws
+pub mod KeytabLaws
+pub mod WritingLaws
+pub mod FormatLaws
+pub mod ListLaws
+pub mod CacheLaws
+pub mod CacheWritingLaws

@@ -1,4 +1,0 @@
-mod Headers
-mod Unasked
-mod Parts
-mod Answered

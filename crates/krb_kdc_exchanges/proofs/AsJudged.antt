@@ -1,0 +1,72 @@
+-- What the parts of an AS request's table give, the table gives.
+use Rattle.std.proofs.Common.{◌≡◌, ℕ, List, Option, Some, Result, Ok, Err, refl, inl, inr}
+use Rattle.std.specs.Prelude.{Vec}
+use Rattle.std.specs.Global.{Global}
+use Rattle.krb_messages.specs.declared.messages.kdc_req.KdcReq.{KdcReq}
+use Rattle.krb_accounts.specs.Account.{AccountRecord}
+use Rattle.krb_messages.specs.Refusals.{IsJudged}
+use Rattle.krb_messages.specs.declared.refusal.Refusal.{Refusal}
+use Rattle.krb_messages.specs.declared.refusal.Refusal.TheVariants.{Krb, Memory}
+use Rattle.decision_tables.specs.Tables.{Table, and_then}
+use Rattle.krb_kdc_exchanges.specs.Rows.{PkinitRows}
+use Rattle.krb_messages.specs.Names.{components}
+use Rattle.krb_tickets.specs.ReplyKeys.{ReplyKeyRecord}
+use Rattle.krb_kdc_exchanges.specs.AsTable.{as_table, authenticated, possible}
+use Rattle.krb_kdc_exchanges.specs.Call.{CallRecord}
+use Rattle.krb_kdc_exchanges.specs.Grants.{Principals, granted}
+use Rattle.krb_kdc_exchanges.specs.Granting.{IsGranted}
+use Rattle.krb_kdc_exchanges.specs.Requests.{header_rows, client_of, service_of}
+use Rattle.krb_kdc_exchanges.specs.declared.span.Span.{Span}
+
+-- the request is for this realm, and names client and service, which have these accounts
+pub record AreKnown (realm : List ℕ) (of_client of_service : Option AccountRecord) (request : KdcReq) (these : Principals) : Type 0 where
+  pub header : (header_rows 10 realm request).gives (Ok tt)
+  pub client_name : client_of request.req_body.0 ≡ Some these.client_name
+  pub client : of_client ≡ Some these.client
+  pub service_name : service_of request.req_body.0 ≡ Some these.service_name
+  pub service : of_service ≡ Some these.service
+
+module _ (call : CallRecord) (rows : PkinitRows) (client service : Option AccountRecord) (request : KdcReq) (these : Principals) where
+  -- what is judged of the ticket that they ask for
+  abbrev pub of_ticket : Result Span Refusal → Type 0
+  of_ticket r = IsJudged (possible call these.client.suite request.req_body.0).gives r
+
+  -- and of the client
+  abbrev pub of_client : Result ReplyKeyRecord Refusal → Type 0
+  of_client r = IsJudged (authenticated call rows these.client (components these.client_name) request).gives r
+
+  abbrev pub answers : Result (Vec ℕ Global) Refusal → Type 0
+  answers r = IsGranted (as_table call rows client service request).gives r
+
+  -- all that is judged of those who are known
+  abbrev further : Table (Result (List ℕ) ℕ)
+  further =
+      and_then (possible call these.client.suite request.req_body.0) (λ span.
+      and_then (authenticated call rows these.client (components these.client_name) request) (λ under.
+      granted call these under span request.req_body.0))
+
+  known : (r : Result (Vec ℕ Global) Refusal) → AreKnown call.realm client service request these → IsGranted further.gives r → answers r
+  known (Ok bytes) k x = inl (tt, k.header, rw (k.client_name, k.client, k.service_name, k.service) x)
+  known (Err (Krb code)) k x = inl (tt, k.header, rw (k.client_name, k.client, k.service_name, k.service) x)
+  known (Err Memory) k x = tt
+
+  ticket_refused : (e : Refusal) → of_ticket (Err e) → IsGranted further.gives (Err e)
+  ticket_refused (Krb code) x = inr (code, x, refl)
+  ticket_refused Memory x = tt
+
+  client_refused : (span : Span) (e : Refusal) → of_ticket (Ok span) → of_client (Err e) → IsGranted further.gives (Err e)
+  client_refused span (Krb code) t x = inl (span, t, inr (code, x, refl))
+  client_refused span Memory t x = tt
+
+  -- no such ticket is given
+  pub refused_ticket : (e : Refusal) → AreKnown call.realm client service request these → of_ticket (Err e) → answers (Err e)
+  refused_ticket e k x = known (Err e) k (ticket_refused e x)
+
+  -- the client isn't authenticated
+  pub refused_client : (span : Span) (e : Refusal) → AreKnown call.realm client service request these → of_ticket (Ok span) → of_client (Err e) → answers (Err e)
+  refused_client span e k t x = known (Err e) k (client_refused span e t x)
+
+  -- the ticket is given
+  pub given_ticket : (span : Span) (under : ReplyKeyRecord) (bytes : Vec ℕ Global) → AreKnown call.realm client service request these → of_ticket (Ok span) → of_client (Ok under)
+      → (granted call these under span request.req_body.0).gives (Ok bytes.items) → answers (Ok bytes)
+  given_ticket span under bytes k t c x = known (Ok bytes) k (inl (span, t, inl (under, c, x)))

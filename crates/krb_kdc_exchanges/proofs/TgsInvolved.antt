@@ -1,0 +1,91 @@
+-- What the table gives rests on the accounts that are looked up for it.
+use Rattle.std.proofs.Common.{◌≡◌, ℕ, not, List, Option, None, Some, Result, Ok, refl, subst, inl, inr}
+use Rattle.krb_accounts.specs.Account.{AccountRecord}
+use Rattle.krb_accounts.specs.Accounts.{Look}
+use Rattle.krb_messages.specs.Names.{components}
+use Rattle.krb_messages.specs.declared.data_types.enc_ticket_part.EncTicketPartInner.{EncTicketPartInner}
+use Rattle.krb_messages.specs.declared.data_types.principal_name.PrincipalName.{PrincipalName}
+use Rattle.krb_messages.specs.declared.messages.ap_req.ApReqInner.{ApReqInner}
+use Rattle.krb_messages.specs.declared.messages.kdc_req.KdcReq.{KdcReq}
+use Rattle.std.specs.Option.{is_some}
+use Rattle.decision_tables.specs.Tables.{Table, and_then, need, refuse}
+use Rattle.krb_ap_requests.specs.declared.presented.Authenticated.{Authenticated}
+use Rattle.krb_kdc_exchanges.specs.Call.{CallRecord}
+use Rattle.asn1_leaves.specs.GeneralizedTime.{seconds_of}
+use Rattle.krb_kdc_exchanges.specs.Granting.{replied}
+use Rattle.krb_kdc_exchanges.specs.Requests.{lasting, padata_in, service_of}
+use Rattle.krb_messages.specs.TicketGranting.{krbtgt_of}
+use Rattle.krb_kdc_exchanges.specs.ByTicket.{IsByTicket, IsInvolvedFurther}
+use Rattle.krb_kdc_exchanges.specs.TgsTable.{carried, covered, first_granted, further, further_grant, holds_back_des3, of_carried, of_authenticated, of_ticket, authenticated_near, reply_key, subkey_in, tgs_granted, tgs_table, ticket_granting, to_us}
+use Rattle.krb_kdc_exchanges.proofs.ByTicket.{by_padata, by_ticket}
+
+-- the value that is needed is the same, and what follows gives the same of it
+same_need : {A : Type 0} (o p : Option A) → o ≡ p → (code : ℕ) (f g : A → Table (Result (List ℕ) ℕ)) (r : Result (List ℕ) ℕ)
+    → ((a : A) → o ≡ Some a → (f a).gives r → (g a).gives r) → (need {A = A} o code f).gives r → (need {A = A} p code g).gives r
+same_need None p e code f g r same x = subst (λ q. (need q code g).gives r) e x
+same_need (Some a) p e code f g r same x = subst (λ q. (need q code g).gives r) e (same a refl x)
+
+same_refuse : (o p : Option AccountRecord) → o ≡ p → (code : ℕ) (t u : Table (Result (List ℕ) ℕ)) (r : Result (List ℕ) ℕ) → (t.gives r → u.gives r)
+    → (refuse {T = List ℕ} (not (is_some o)) code t).gives r → (refuse {T = List ℕ} (not (is_some p)) code u).gives r
+same_refuse o p e code t u r same x = subst (λ q. (refuse {T = List ℕ} (not (is_some q)) code u).gives r) e (of_option o x)
+  where
+    of_option : (q : Option AccountRecord) → (refuse {T = List ℕ} (not (is_some q)) code t).gives r → (refuse {T = List ℕ} (not (is_some q)) code u).gives r
+    of_option None y = y
+    of_option (Some account) y = same y
+
+same_then : {A : Type 0} (t : Table (Result A ℕ)) (f g : A → Table (Result (List ℕ) ℕ)) (r : Result (List ℕ) ℕ)
+    → ((a : A) → t.gives (Ok a) → (f a).gives r → (g a).gives r) → (and_then t f).gives r → (and_then t g).gives r
+same_then t f g r same (inl (a, x, y)) = inl (a, x, same a x y)
+same_then t f g r same (inr refused) = inr refused
+
+module _ (call : CallRecord) (other : Look) (request : KdcReq) (agree : (these : List (List ℕ)) → IsInvolvedFurther call request these → call.look these ≡ other these) (r : Result (List ℕ) ℕ) where
+  abbrev beside : CallRecord
+  beside = record call { look = other }
+
+  -- what is granted, by the account of the ticket's client
+  abbrev by_client : EncTicketPartInner → Authenticated → PrincipalName → AccountRecord → Option AccountRecord → Table (Result (List ℕ) ℕ)
+  by_client part authenticated name service client =
+      let body = request.req_body.0 in
+      and_then (lasting call.settings.lifetime call.moment (Some (seconds_of part.endtime.0.0)) body) (λ span.
+      need (first_granted (holds_back_des3 call.settings.policy client service) body.etype.0) 14 (λ suite.
+      need (reply_key authenticated.suite part.key.0.key_value.0 (subkey_in authenticated.authenticator)) 31 (λ under.
+      replied (further_grant call part name suite body span) under service call.words)))
+
+  same_granted : (ap_req : ApReqInner) (part : EncTicketPartInner) (authenticated : Authenticated) → IsByTicket call request ap_req part
+      → (tgs_granted call part authenticated request.req_body.0).gives r → (tgs_granted beside part authenticated request.req_body.0).gives r
+  same_granted ap_req part authenticated by =
+      let body = request.req_body.0 in
+      let given : CallRecord → PrincipalName → AccountRecord → Table (Result (List ℕ) ℕ) = λ own name service. further own part authenticated name service body in
+      let by_name : CallRecord → PrincipalName → Table (Result (List ℕ) ℕ) = λ own name. need (own.look (components name)) 7 (given own name) in
+      let to_service : CallRecord → Table (Result (List ℕ) ℕ) = λ own. need (service_of body) 7 (by_name own) in
+      same_refuse (call.look (components part.cname.0)) (other (components part.cname.0)) (agree (components part.cname.0) (inr (inr (ap_req, part, by, refl)))) 6 (to_service call) (to_service beside) r
+      (same_need (service_of body) (service_of body) refl 7 (by_name call) (by_name beside) r
+      (λ name b.
+      same_need (call.look (components name)) (other (components name)) (agree (components name) (inr (inl (name, b, refl)))) 7 (given call name) (given beside name) r
+      (λ service c x. subst (λ client. (by_client part authenticated name service client).gives r) (agree (components part.cname.0) (inr (inr (ap_req, part, by, refl)))) x)))
+
+  same_of_carried : (ap_req : ApReqInner) → (carried (padata_in request)).gives (Ok ap_req)
+      → (of_carried call request.req_body.0 ap_req).gives r → (of_carried beside request.req_body.0 ap_req).gives r
+  same_of_carried ap_req x =
+      let found = by_padata (padata_in request) ap_req x in
+      let body = request.req_body.0 in
+      same_need (call.look (krbtgt_of call.realm)) (other (krbtgt_of call.realm)) (agree (krbtgt_of call.realm) (inl refl)) 7
+      (λ granting. and_then (ticket_granting call granting ap_req) (of_ticket call body ap_req))
+      (λ granting. and_then (ticket_granting call granting ap_req) (of_ticket beside body ap_req)) r
+      (λ granting e.
+      same_then (ticket_granting call granting ap_req) (of_ticket call body ap_req) (of_ticket beside body ap_req) r
+      (λ part y.
+      same_then (authenticated_near call part ap_req) (of_authenticated call body part) (of_authenticated beside body part) r
+      (λ authenticated z.
+      same_then {A = Unit {0}} (covered authenticated.suite part.key.0.key_value.0 authenticated.authenticator body) (λ _. tgs_granted call part authenticated body) (λ _. tgs_granted beside part authenticated body) r
+      (λ _ w.
+      same_granted ap_req part authenticated
+      (record { value = found.0; first = found.1; read = found.2; granting = granting; account = e; opens = by_ticket call granting ap_req part y })))))
+
+  pub same_further : (tgs_table call request).gives r → (tgs_table beside request).gives r
+  same_further =
+      same_then {A = Unit {0}} (to_us call.realm request) (λ _. and_then (carried (padata_in request)) (of_carried call request.req_body.0))
+      (λ _. and_then (carried (padata_in request)) (of_carried beside request.req_body.0)) r
+      (λ _ x.
+      same_then (carried (padata_in request)) (of_carried call request.req_body.0) (of_carried beside request.req_body.0) r
+      (λ ap_req y. same_of_carried ap_req y))

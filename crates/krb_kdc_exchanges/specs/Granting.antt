@@ -1,0 +1,28 @@
+-- What a realm grants, in an AS or a TGS exchange (RFC 4120, sections 3.1.3, 3.3.3).
+use Rattle.std.specs.Prelude.{ℕ, Result, Ok, Err, Vec}
+use Rattle.std.specs.Global.{Global}
+use Rattle.picky_asn1.specs.Bytes.{Bytes}
+use Rattle.krb_accounts.specs.Account.{AccountRecord}
+use Rattle.krb_messages.specs.RandomBytes.{Random}
+use Rattle.krb_messages.specs.Refusals.{Code}
+use Rattle.krb_messages.specs.declared.refusal.Refusal.{Refusal}
+use Rattle.krb_messages.specs.declared.refusal.Refusal.TheVariants.{Krb, Memory}
+use Rattle.decision_tables.specs.Tables.{Table, done, make}
+use Rattle.krb_tickets.specs.Grant.{GrantRecord}
+use Rattle.krb_tickets.specs.ReplyKeys.{ReplyKeyRecord}
+use Rattle.krb_tickets.specs.Granted.{IsTicketReply, sole_ticket_reply}
+
+-- unless memory runs out, the reply's bytes or the error code are the outcome of the table
+abbrev pub IsGranted : (Result Bytes Code → Type 0) → Result (Vec ℕ Global) Refusal → Type 0
+IsGranted gives (Ok bytes) = gives (Ok bytes.items)
+IsGranted gives (Err (Krb code)) = gives (Err code)
+IsGranted gives (Err Memory) = Unit {0}
+
+-- the one reply that grants a ticket, its own part sealed under the reply key
+abbrev pub replied : GrantRecord → ReplyKeyRecord → AccountRecord → Random → Table (Result Bytes Code)
+replied grant under service words =
+    -- The reply has the ticket's part under the service's key, with its kvno, for key usage 2 (RFC 4120, sections 3.1.3, 3.3.3 and 5.3).
+    -- Test: `as honest`, `tgs honest`.
+    -- The reply has its own part under the reply key (RFC 4120, sections 3.1.3 and 3.3.3). Test: `as honest`, `tgs honest`.
+    make (IsTicketReply grant under service words) (sole_ticket_reply grant under service words) (λ bytes.
+    done (Ok bytes))

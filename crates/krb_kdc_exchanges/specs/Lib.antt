@@ -1,0 +1,16 @@
+pub mod PkinitCalls
+pub mod Rows
+pub mod Call
+pub mod Requests
+pub mod Calls
+pub mod Granting
+pub mod Preauthentication
+pub mod Grants
+pub mod AsTable
+pub mod TgsTable
+pub mod SessionKeys
+pub mod ByTicket
+pub mod Errors
+pub mod Replies
+pub mod Involved
+pub mod Judged

@@ -1,0 +1,88 @@
+//! Granting a first ticket.
+ghost use Rattle.std.specs.Prelude.{◌≡◌, Ok, IfOk};
+ghost use Rattle.krb_messages.specs.RandomBytes.{AreEnoughForReply};
+ghost use Rattle.krb_tickets.specs.ReplyKeys.{reply_key_of};
+ghost use Rattle.krb_kdc_exchanges.specs.Preauthentication.{reply_key_by};
+ghost use Rattle.krb_kdc_exchanges.specs.Call.{call_of};
+ghost use Rattle.krb_kdc_exchanges.specs.Grants.{granted, initial_grant, principals_of};
+ghost use Rattle.krb_tickets.specs.Grant.{grant_of};
+
+use crate::as_exchange::judge::Preauthentication;
+use crate::{Call, Span, session_key};
+use krb_accounts::Account;
+use krb_messages::data_types::PrincipalName;
+use krb_messages::messages::KdcReqBody;
+use krb_tickets::{Grant, ReplyKey, TicketFlags, ticket_reply};
+use std::alloc::{AllocError, Global};
+
+/// The client and the service of a request, with their accounts.
+#[derive(Clone, Copy, Drop)]
+pub(crate) struct Principals<'a> {
+    /// The request's `cname`.
+    pub(crate) client_name: &'a PrincipalName,
+    /// The client's account.
+    pub(crate) client: &'a Account,
+    /// The request's `sname`.
+    pub(crate) service_name: &'a PrincipalName,
+    /// The service's account.
+    pub(crate) service: &'a Account,
+}
+
+/// Makes the reply with the first ticket, under the reply key (RFC 4120, section 3.1.3).
+pub(crate) fn grant(
+    alloc: Global,
+    call: &Call<'_>,
+    principals: Principals,
+    authenticated: &Preauthentication,
+    span: Span,
+    body: &KdcReqBody,
+) -> Result<Vec<u8>, AllocError>
+    requires { AreEnoughForReply call.now.words.now }
+    ensures { IfOk result (λ bytes. (granted (call_of call.now) (principals_of principals.entry) (reply_key_by principals.entry.client.now authenticated.now) span body.now).gives (Ok bytes.items)) }
+{
+    let grant = initial_grant(alloc, call, principals, span, body)?;
+    let under = reply_key_by(authenticated, principals.client);
+    let made = ticket_reply(alloc, &grant, &under, principals.service, call.words);
+    drop(grant);
+    made
+}
+
+// The reply key: the client's own, or the key that both agreed on.
+fn reply_key_by<'a>(authenticated: &'a Preauthentication, client: &'a Account) -> ReplyKey<'a>
+    ensures { reply_key_of result ≡ reply_key_by client.now authenticated.now }
+{
+    match authenticated {
+        Preauthentication::ByTimestamp => ReplyKey::of_client(client),
+        Preauthentication::ByCertificate(key, reply) => ReplyKey::of_agreement(key, reply),
+    }
+}
+
+// Makes what the first ticket is granted with: a session key of the client's suite, and the request's names and nonce.
+fn initial_grant<'a>(
+    alloc: Global,
+    call: &Call<'a>,
+    principals: Principals<'a>,
+    span: Span,
+    body: &'a KdcReqBody,
+) -> Result<Grant<'a>, AllocError>
+    requires { AreEnoughForReply call.now.words.now }
+    ensures { IfOk result (λ grant. grant_of grant ≡ initial_grant (call_of call.now) (principals_of principals.entry) body.now span) }
+{
+    let suite = principals.client.suite();
+    let session = session_key(alloc, suite, call.words)?;
+    Ok(Grant {
+        suite,
+        session,
+        realm: call.realm,
+        client: principals.client_name,
+        service: principals.service_name,
+        flags: TicketFlags {
+            initial: true,
+            pre_authenticated: true,
+        },
+        auth_time: span.starttime,
+        starttime: span.starttime,
+        endtime: span.endtime,
+        nonce: &body.nonce.0,
+    })
+}

@@ -1,0 +1,158 @@
+//! Judges AS requests by the rows of a realm's table, part by part.
+ghost use Rattle.std.specs.Prelude.{◌≡◌, Some};
+ghost use Rattle.krb_messages.specs.RandomBytes.{AreEnoughForReply};
+ghost use Rattle.krb_kdc_exchanges.specs.AsTable.{authenticated, authenticated_by, is_later, is_listed, possible, timestamped};
+ghost use Rattle.krb_kdc_exchanges.specs.Preauthentication.{reply_key_as};
+ghost use Rattle.krb_kdc_exchanges.specs.Call.{call_of};
+ghost use Rattle.krb_messages.specs.Refusals.{IsJudged};
+
+use crate::{Agreed, Call, Pkinit, PkinitCall, Span, lasting, padata_in};
+use krb_accounts::Account;
+use krb_constants::error_codes;
+use krb_constants::padata_types::{PA_ENC_TIMESTAMP, PA_PK_AS_REQ};
+use krb_crypto::diffie_hellman::agreed_key;
+use krb_crypto::{CipherSuite, Key};
+use krb_messages::Refusal;
+use krb_messages::data_types::PaData;
+use krb_messages::messages::{KdcReq, KdcReqBody};
+use krb_tickets::{first_of, moment_of, open_encrypted_timestamp};
+use picky_asn1::is_number;
+use picky_asn1::wrapper::GeneralStringAsn1;
+use std::alloc::Global;
+
+/// Judges the ticket's times, and whether `etype` lists the suite of the client's key.
+pub(crate) fn check_possible(
+    call: &Call<'_>,
+    suite: CipherSuite,
+    body: &KdcReqBody,
+) -> Result<Span, Refusal>
+    ensures { IsJudged (possible (call_of call.now) suite body.now).gives result }
+{
+    if is_later(call, body) {
+        return Err(Refusal::Krb(error_codes::KDC_ERR_CANNOT_POSTDATE));
+    }
+    let span = lasting(call.settings, call.moment, None, body)?;
+    if !is_listed(suite, body) {
+        return Err(Refusal::Krb(error_codes::KDC_ERR_ETYPE_NOSUPP));
+    }
+    Ok(span)
+}
+
+// Whether `from` is later than the moment by more than the skew.
+fn is_later(call: &Call<'_>, body: &KdcReqBody) -> bool
+    ensures { result ≡ is_later (call_of call.now) body.now }
+{
+    match &body.from.0 {
+        Some(from) => call.moment.is_before(from.0.0, call.skew()),
+        None => false,
+    }
+}
+
+// Whether `etype` lists the suite.
+fn is_listed(suite: CipherSuite, body: &KdcReqBody) -> bool
+    ensures { result ≡ is_listed suite body.now }
+{
+    let number = u32::from(&suite);
+    body.etype
+        .0
+        .as_slice()
+        .iter()
+        .any(|etype| is_number(etype, number))
+}
+
+/// The preauthentication by which a client was authenticated.
+#[derive(Drop)]
+pub(crate) enum Preauthentication {
+    /// The client sent an encrypted timestamp (RFC 4120, section 5.2.7.2).
+    ByTimestamp,
+    /// The client sent a certificate (RFC 4556). The key is the one that client and KDC agreed on, and the bytes are PA-PK-AS-REP's data.
+    ByCertificate(Key, Vec<u8>),
+}
+
+/// Authenticates the client: by PA-PK-AS-REQ where it is there, else by PA-ENC-TIMESTAMP.
+pub(crate) fn authenticate<P: Pkinit>(
+    alloc: Global,
+    call: &Call<'_>,
+    pkinit: &P,
+    client: &Account,
+    name: &[GeneralStringAsn1],
+    request: &KdcReq,
+) -> Result<Preauthentication, Refusal>
+    requires { AreEnoughForReply call.now.words.now }
+    ensures { IsJudged (authenticated (call_of call.now) (P.rows pkinit.now) client.now name.now request.now).gives (reply_key_as client.now result) }
+{
+    let padata = padata_in(request);
+    let Some(pk_as_req) = first_of(padata, PA_PK_AS_REQ) else {
+        check_timestamp(alloc, call, client, padata)?;
+        return Ok(Preauthentication::ByTimestamp);
+    };
+    agree_by(
+        alloc,
+        call,
+        pkinit,
+        client,
+        name,
+        request,
+        pk_as_req.as_bytes(),
+    )
+}
+
+// Authenticates the client by the data of PA-PK-AS-REQ, and derives the key that both agreed on (RFC 4556, section 3.2.3.1).
+fn agree_by<P: Pkinit>(
+    alloc: Global,
+    call: &Call<'_>,
+    pkinit: &P,
+    client: &Account,
+    name: &[GeneralStringAsn1],
+    request: &KdcReq,
+    padata: &[u8],
+) -> Result<Preauthentication, Refusal>
+    requires { AreEnoughForReply call.now.words.now }
+    ensures { IsJudged (authenticated_by (call_of call.now) (P.rows pkinit.now) client.now name.now request.now (Some padata.now)).gives (reply_key_as client.now result) }
+{
+    let pkinit_call = PkinitCall {
+        realm: call.realm,
+        skew: call.skew(),
+        client: name,
+        body: &request.req_body.0,
+        moment: call.moment,
+        words: call.words,
+    };
+    let agreed = pkinit.judge(alloc, &pkinit_call, padata)?;
+    let (secret, reply) = parts_of(agreed);
+    let key = agreed_key(alloc, client.suite(), secret)?;
+    Ok(Preauthentication::ByCertificate(key, reply))
+}
+
+// The secret and the data of PA-PK-AS-REP.
+fn parts_of(agreed: Agreed) -> (Vec<u8>, Vec<u8>)
+    ensures { (result.0 ≡ agreed.secret) × (result.1 ≡ agreed.reply) }
+{
+    (agreed.secret, agreed.reply)
+}
+
+// Judges whether the client proves that it has its key, by an encrypted timestamp near the moment (RFC 4120, section 5.2.7.2).
+fn check_timestamp(
+    alloc: Global,
+    call: &Call<'_>,
+    client: &Account,
+    padata: &[PaData],
+) -> Result<(), Refusal>
+    ensures { IsJudged (timestamped (call_of call.now) client.now padata.now).gives result }
+{
+    let Some(value) = first_of(padata, PA_ENC_TIMESTAMP) else {
+        return Err(Refusal::Krb(error_codes::KDC_ERR_PREAUTH_REQUIRED));
+    };
+    let Some(timestamp) = open_encrypted_timestamp(alloc, client, value.as_bytes())? else {
+        return Err(Refusal::Krb(error_codes::KDC_ERR_PREAUTH_FAILED));
+    };
+    let moment = moment_of(&timestamp);
+    drop(timestamp);
+    let Some(time) = moment else {
+        return Err(Refusal::Krb(error_codes::KDC_ERR_PREAUTH_FAILED));
+    };
+    if call.moment.is_far_from(time, call.skew()) {
+        return Err(Refusal::Krb(error_codes::KRB_AP_ERR_SKEW));
+    }
+    Ok(())
+}

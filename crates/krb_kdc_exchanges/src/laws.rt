@@ -1,0 +1,29 @@
+//! Laws of every realm's replies.
+ghost use Rattle.std.specs.Prelude.{◌≡◌, ◌<◌, ◌^◌, ℕ, List, Option, length};
+ghost use Rattle.block_ciphers.specs.Bytes.{IsBytes};
+ghost use Rattle.krb_kdc_exchanges.specs.Call.{CallRecord};
+ghost use Rattle.krb_kdc_exchanges.specs.Calls.{IsCall};
+ghost use Rattle.krb_kdc_exchanges.specs.Involved.{IsOfInvolvedAlone};
+ghost use Rattle.krb_kdc_exchanges.specs.Replies.{Replies};
+ghost use Rattle.decision_tables.specs.Some.{HasSome};
+
+use crate::Pkinit;
+
+/// Realms of one name, of the same settings and of one way to judge requests by certificate, which agree on the accounts
+/// involved in a request, reply to it equally, whatever other accounts they have: to an AS request the accounts of the client
+/// and of the service that it names, to a TGS request those of the ticket-granting service, of the service and of the
+/// ticket's client. It does nothing when it runs: its contract is the law.
+pub fn of_involved_alone<P: Pkinit>(pkinit: &P)
+    ensures { IsOfInvolvedAlone (P.rows pkinit.now) }
+{}
+
+/// A realm has one reply at most to a message at a moment. It does nothing when it runs: its contract is the law.
+pub fn one_reply<P: Pkinit>(pkinit: &P)
+    ensures { (call : CallRecord) (request : List ℕ) (a b : Option (List ℕ)) → Replies call (P.rows pkinit.now) request a → Replies call (P.rows pkinit.now) request b → a ≡ b }
+{}
+
+/// A realm has a reply to each request of fewer than 2^64 bytes, and every slice is shorter: it can't be that the realm's
+/// table gives nothing. It does nothing when it runs: its contract is the law.
+pub fn has_reply<P: Pkinit>(pkinit: &P)
+    ensures { (call : CallRecord) (request : List ℕ) → IsCall call → IsBytes request → length request < 2 ^ 64 → HasSome (Replies call (P.rows pkinit.now) request) }
+{}

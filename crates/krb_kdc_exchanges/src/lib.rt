@@ -1,0 +1,42 @@
+//! The AS and TGS exchanges of a realm (RFC 4120, sections 3.1, 3.3 and 5.4): reading requests, the decision tables of both exchanges
+//! and the code of each row, and replies over whole messages.
+//!
+//! The modules `as_exchange` and `tgs_exchange` have the rows of one exchange each. Those that both share are in `requests`. The rows for
+//! the presented ticket and its authenticator are in `krb_ap_requests`. `Pkinit` is the call by which a request by certificate is judged
+//! (RFC 4556): how certificates, signatures and public values are judged is in crates above.
+//!
+//! `read_as_req` and `read_tgs_req` give a request if and only if the bytes are its one encoding. `check_header` and `lasting` judge the
+//! version, type, realm, options and times of a request. The first row that holds decides, unless memory runs out (`IsJudged`). `judge_as`
+//! gives the reply that `as_table` grants, or the code of the first row that refuses, for each implementation of `Pkinit`. `Pkinit::judge`
+//! gives an outcome of its own table, which has one for each request (`PkinitRows`). `judge_tgs` gives the reply that `tgs_table` grants,
+//! or the code of the first row that refuses. The checksum covers the one encoding of the body, which is a part of the request's own bytes
+//! (laws `body_is_part`, `as_body_is_part`, `padata_is_part`). `as_reply` and `tgs_reply` give a reply that the table allows: a ticket, or
+//! a KRB-ERROR with its code. A message has one reply at most, and a request has one (laws `one_reply`, `has_reply`). The reply depends on
+//! the involved accounts alone (law `of_involved_alone`).
+#![tactic(auto)]
+
+mod answer;
+pub mod as_exchange;
+mod call;
+mod error;
+mod kdc_error;
+pub mod laws;
+mod names;
+mod pkinit;
+mod pkinit_call;
+mod read;
+mod requests;
+mod span;
+pub mod tgs_exchange;
+
+pub use answer::{as_reply, tgs_reply};
+pub use as_exchange::judge_as;
+pub use call::Call;
+pub use pkinit::Pkinit;
+pub use pkinit_call::{Agreed, PkinitCall};
+pub use read::{read_as_req, read_tgs_req};
+pub use requests::{
+    account_of, check_header, client_of, lasting, padata_in, service_of, session_key,
+};
+pub use span::Span;
+pub use tgs_exchange::judge_tgs;

@@ -1,0 +1,198 @@
+//! Grants a service ticket by the presented ticket.
+ghost use Rattle.std.specs.Prelude.{◌≡◌, IfOk, false};
+ghost use Rattle.std.specs.Option.{option_copied, option_map, option_map_or};
+ghost use Rattle.krb_messages.specs.RandomBytes.{AreEnoughForReply};
+ghost use Rattle.krb_kdc_exchanges.specs.Call.{call_of};
+ghost use Rattle.krb_kdc_exchanges.specs.Granting.{IsGranted};
+ghost use Rattle.krb_tickets.specs.Grant.{grant_of};
+ghost use Rattle.krb_tickets.specs.ReplyKeys.{reply_key_of};
+ghost use Rattle.krb_crypto.specs.Keys.{KeyRecord};
+ghost use Rattle.krb_kdc_exchanges.specs.SessionKeys.{HasSessionKey, under};
+ghost use Rattle.krb_kdc_exchanges.specs.TgsTable.{first_granted, first_number, further, further_grant, has_des3_key, is_des3, is_granted, reply_key, subkey_in, suite_numbered, without_des3};
+
+use crate::{Call, Span, lasting, session_key};
+use krb_accounts::Account;
+use krb_ap_requests::Authenticated;
+use krb_constants::{error_codes, ticket_flags};
+use krb_crypto::{CipherSuite, Key};
+use krb_messages::Refusal;
+use krb_messages::data_types::{
+    AuthenticatorInner, EncTicketPartInner, EncryptionKey, PrincipalName,
+};
+use krb_messages::messages::KdcReqBody;
+use krb_tickets::{Grant, ReplyKey, TicketFlags, key_of, ticket_reply};
+use picky_asn1::is_number;
+use picky_asn1::wrapper::IntegerAsn1;
+use std::alloc::{AllocError, Global};
+
+/// What the AP-REQ of a TGS request holds, decrypted: the ticket's part, its session key, and the authenticator under this key.
+#[derive(Clone, Copy, Drop)]
+pub(crate) struct OpenedApReq<'a> {
+    /// The ticket's part.
+    pub(crate) part: &'a EncTicketPartInner,
+    /// The session key.
+    pub(crate) key: &'a Key,
+    /// The authenticator.
+    pub(crate) authenticated: &'a Authenticated,
+}
+
+/// Makes the reply with a ticket for the service, by the presented ticket and its authenticator (RFC 4120, section 3.3.3).
+pub(crate) fn grant(
+    alloc: Global,
+    call: &Call<'_>,
+    opened: &OpenedApReq<'_>,
+    service_name: &PrincipalName,
+    service: &Account,
+    body: &KdcReqBody,
+) -> Result<Vec<u8>, Refusal>
+    requires words { AreEnoughForReply call.now.words.now }
+    requires key { HasSessionKey opened.now }
+    ensures { IsGranted (further (call_of call.now) opened.now.part.now opened.now.authenticated.now service_name.now service.now body.now).gives result }
+{
+    let part = opened.part;
+    let span = lasting(call.settings, call.moment, Some(part.endtime.0.0), body)?;
+    let without = without_des3(call, part, service);
+    let Some(suite) = first_granted(without, body.etype.0.as_slice()) else {
+        return Err(Refusal::Krb(error_codes::KDC_ERR_ETYPE_NOSUPP));
+    };
+    let Some(subkey) = subkey_of(&opened.authenticated.authenticator) else {
+        return Err(Refusal::Krb(error_codes::KRB_AP_ERR_BAD_INTEGRITY));
+    };
+    let under = reply_key(opened.key, &subkey);
+    let grant = further_grant(alloc, call, part, service_name, suite, body, span)?;
+    let made = ticket_reply(alloc, &grant, &under, service, call.words);
+    drop(grant);
+    let reply = made?;
+    Ok(reply)
+}
+
+// Whether session keys of triple DES are held back from the ticket's client and the service.
+fn without_des3(call: &Call<'_>, part: &EncTicketPartInner, service: &Account) -> bool
+    ensures { result ≡ without_des3 (call_of call.now) part.now service.now }
+{
+    if !call.settings.policy().limits_des3 {
+        return false;
+    }
+    let client = call.accounts.get(part.cname.0.name_string.0.as_slice());
+    !has_des3_key(client) && !has_des3_key(Some(service))
+}
+
+// Whether the account, if there is one, has a key of triple DES.
+fn has_des3_key(account: Option<&Account>) -> bool
+    ensures { result ≡ has_des3_key (option_copied account.entry) }
+{
+    match account {
+        Some(own) => is_des3(own.suite()),
+        None => false,
+    }
+}
+
+fn is_des3(suite: CipherSuite) -> bool
+    ensures { result ≡ is_des3 suite }
+{
+    match suite {
+        CipherSuite::Des3CbcSha1Kd => true,
+        _ => false,
+    }
+}
+
+// The first granted suite that the client's `etype` lists.
+fn first_granted(without: bool, numbers: &[IntegerAsn1]) -> Option<CipherSuite>
+    ensures { result ≡ first_granted without numbers.now }
+{
+    match first_number(without, numbers) {
+        Some(number) => suite_numbered(number),
+        None => None,
+    }
+}
+
+// The first encryption type, in the client's order, that is that of a granted suite.
+fn first_number(without: bool, numbers: &[IntegerAsn1]) -> Option<&IntegerAsn1>
+    ensures { option_copied result ≡ first_number without numbers.now }
+{
+    numbers
+        .iter()
+        .find(|number| is_granted_number(without, number))
+}
+
+// Whether the encryption type is that of a granted suite.
+fn is_granted_number(without: bool, number: &IntegerAsn1) -> bool
+    ensures { result ≡ option_map_or (is_granted without) (suite_numbered number.now) false }
+{
+    match suite_numbered(number) {
+        Some(suite) => !without || !is_des3(suite),
+        None => false,
+    }
+}
+
+// The suite of an encryption type.
+fn suite_numbered(number: &IntegerAsn1) -> Option<CipherSuite>
+    ensures { result ≡ suite_numbered number.now }
+{
+    CipherSuite::all()
+        .iter()
+        .copied()
+        .find(|suite| is_number(number, u32::from(suite)))
+}
+
+// The authenticator's subkey, as the message has it.
+fn subkey_in(authenticator: &AuthenticatorInner) -> Option<&EncryptionKey>
+    ensures { option_copied result ≡ subkey_in authenticator.now }
+{
+    match &authenticator.subkey.0 {
+        Some(tagged) => Some(&tagged.0),
+        None => None,
+    }
+}
+
+// The authenticator's subkey, if it has one. The outer `None` is a subkey of no suite, the inner one no subkey.
+fn subkey_of(authenticator: &AuthenticatorInner) -> Option<Option<Key>>
+    ensures { (session : KeyRecord) → reply_key session.suite session.bytes (subkey_in authenticator.now) ≡ option_map (under session) result }
+{
+    let Some(subkey) = subkey_in(authenticator) else {
+        return Some(None);
+    };
+    let key = key_of(subkey)?;
+    Some(Some(key))
+}
+
+// The reply key: the subkey where there is one, else the session key.
+fn reply_key<'a>(session: &'a Key, subkey: &'a Option<Key>) -> ReplyKey<'a>
+    ensures { reply_key_of result ≡ under session.now subkey.now }
+{
+    match subkey {
+        Some(key) => ReplyKey::of_subkey(key),
+        None => ReplyKey::of_session(session),
+    }
+}
+
+// Makes what the service ticket is granted with: client, authtime and flag pre-authent are the presented ticket's.
+fn further_grant<'a>(
+    alloc: Global,
+    call: &Call<'a>,
+    part: &'a EncTicketPartInner,
+    service_name: &'a PrincipalName,
+    suite: CipherSuite,
+    body: &'a KdcReqBody,
+    span: Span,
+) -> Result<Grant<'a>, AllocError>
+    requires { AreEnoughForReply call.now.words.now }
+    ensures { IfOk result (λ grant. grant_of grant ≡ further_grant (call_of call.now) part.now service_name.now suite body.now span) }
+{
+    let session = session_key(alloc, suite, call.words)?;
+    Ok(Grant {
+        suite,
+        session,
+        realm: call.realm,
+        client: &part.cname.0,
+        service: service_name,
+        flags: TicketFlags {
+            initial: false,
+            pre_authenticated: part.flags.0.bit(ticket_flags::PRE_AUTHENT),
+        },
+        auth_time: part.auth_time.0.0,
+        starttime: span.starttime,
+        endtime: span.endtime,
+        nonce: &body.nonce.0,
+    })
+}

@@ -1,4 +1,0 @@
-use Rattle.krb_kdc_requests.proofs.read.read_as_req.Goals as goal
-
-pub returns-in-None : goal.returns-in-None
-returns-in-None c = λ request writes. (rw c.in-None.is at c.in_ok-read.ensures) (record { 0 = request }) writes

@@ -1,4 +1,0 @@
-pub mod Call
-pub mod Requests
-pub mod Calls
-pub mod Granting

@@ -1,7 +1,0 @@
-pub mod Finding
-pub mod KeySuites
-pub mod OwnEntries
-pub mod RecordEntries
-pub mod ChosenEntries
-pub mod ChosenSteps
-pub mod KeytabLaws

@@ -1,7 +1,0 @@
-use Rattle.std.proofs.Common.{◌≡◌, take}
-use Rattle.krb_keytab_services.specs.KeytabEntries.{entries_of}
-use Rattle.krb_keytab_services.proofs.entries.entries_of.Given as goal
-
--- the entries so far
-abbrev pub invariant-loop-key_record : goal.invariant-loop-key_record
-invariant-loop-key_record l = l.entries.items ≡ entries_of l.realm l.name (take l.key_record-index l.key_record-items)

@@ -1,8 +1,0 @@
-use Rattle.krb_keytab_services.proofs.KeytabLaws.{earlier_alone, unfit_alone}
-use Rattle.krb_keytab_services.proofs.laws.other_entries_alone.Goals as goal
-
-pub returns-clause-earlier : goal.returns-clause-earlier
-returns-clause-earlier c = earlier_alone
-
-pub returns-clause-unfit : goal.returns-clause-unfit
-returns-clause-unfit c = unfit_alone

@@ -1,4 +1,0 @@
-pub mod ChosenEntry
-pub mod KeytabEntries
-pub mod KeytabService
-pub mod KeytabRuns

@@ -1,5 +1,0 @@
-pub mod Numbers
-pub mod Entries
-pub mod Layouts
-pub mod Reading
-pub mod Writing

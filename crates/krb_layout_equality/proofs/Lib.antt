@@ -1,2 +1,0 @@
-pub mod SeenLaws
-pub mod Seeing

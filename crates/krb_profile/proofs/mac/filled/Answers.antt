@@ -1,6 +1,0 @@
-use Rattle.std.proofs.Common.{arith, ◌∙◌}
-use Rattle.krb_profile.proofs.HmacLemmas.{fitted-short}
-use Rattle.krb_profile.proofs.mac.filled.Goals as goal
-
-pub returns : goal.returns
-returns g c = c.loop-i.invariant ∙ fitted-short g.row.B c.loop-i.i c.args.bytes.now (omega arith) (omega arith)

@@ -1,6 +1,0 @@
-use Rattle.std.proofs.Common.{◌∙◌, sym, arith}
-use Rattle.krb_profile.proofs.CopyLemmas.{number_at-first_copy}
-use Rattle.krb_profile.proofs.whole_copies.first_copy.Goals as goal
-
-pub returns : goal.returns
-returns c = omega (arith, c.from_be_bytes-front.ensures, c.from.ensures, c.from-2.ensures, number_at-first_copy c.args.constant.now c.requires (λ i. (c.type_inv.constant i).fits))

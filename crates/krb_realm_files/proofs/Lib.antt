@@ -1,0 +1,11 @@
+mod Numbered
+mod Again
+mod RealmAgain
+mod Said
+mod Written
+mod Keyed
+mod Fitting
+mod Headers
+mod Unasked
+mod Parts
+mod Answered

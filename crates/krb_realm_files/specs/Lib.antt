@@ -1,0 +1,13 @@
+pub mod Reading
+pub mod AccountRecords
+pub mod RealmRecords
+pub mod Files
+pub mod Held
+pub mod Named
+pub mod Asked
+pub mod Faults
+pub mod Headers
+pub mod Lacks
+pub mod Means
+pub mod RefusedPkinit
+pub mod Replies

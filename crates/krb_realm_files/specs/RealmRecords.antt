@@ -1,0 +1,62 @@
+-- The record of the realm: octet 0 the version, octets 1 to 4 the clock skew and octets 5 to 8 the greatest lifetime of a ticket, both in
+-- seconds, octets 9 to 12 how many octets logins by certificate are answered by, octets 13 to 16 the policy, then those octets, and the
+-- realm's name up to the end. Of each number the lowest octet is the first. Without such octets no login by certificate is answered.
+-- The policy is 0 where none is set, and 1 where it limits session keys of triple DES.
+use Rattle.std.specs.Prelude.{ℕ, ◌+◌, ◌==◌, ◌||◌, ◌&&◌, nat_le, nat_lt, not, Bool, true, List, [], ◌∷◌, ◌++◌, length, drop, take, slice_index, Option, None, Some, if◌then◌else◌}
+use Rattle.byte_streams.specs.Numbers.{le32, le32_at}
+use Rattle.krb_accounts.specs.Names.{is_realm_name}
+use Rattle.krb_accounts.specs.Settings.{SettingsRecord}
+use Rattle.krb_accounts.specs.declared.policy.Policy.{Policy}
+use Rattle.krb_accounts.specs.declared.settings.TheConstants.{LIFETIME_LIMIT, SKEW_LIMIT}
+use Rattle.krb_realm_files.specs.declared.format.TheConstants.{LIMITS_DES3, PKINIT_ROOM, REALM_HEAD, RECORD_VERSION}
+use Rattle.krb_realm_files.specs.declared.realm_parameters.RealmParameters.{RealmParameters}
+
+-- The policy of a number, and the number of a policy.
+abbrev pub policy_of : ℕ → Policy
+policy_of number = record { limits_des3 = number == LIMITS_DES3 }
+
+abbrev pub policy_number : Policy → ℕ
+policy_number policy = if policy.limits_des3 then LIMITS_DES3 else 0
+
+-- The settings of this clock skew, this greatest lifetime and the policy of this number, if all are in their ranges.
+abbrev pub settings_of : ℕ → ℕ → ℕ → Option SettingsRecord
+settings_of skew lifetime policy =
+    if nat_le skew SKEW_LIMIT && nat_le 1 lifetime && nat_le lifetime LIFETIME_LIMIT && nat_le policy LIMITS_DES3
+    then Some (record { skew = skew; lifetime = lifetime; policy = policy_of policy }) else None
+
+-- What logins by certificate are answered by, if there are octets.
+abbrev pub pkinit_in : List ℕ → Option (List ℕ)
+pkinit_in [] = None
+pkinit_in (octet ∷ octets) = Some (octet ∷ octets)
+
+-- The octets of a record by which logins by certificate are answered, none if none are given.
+abbrev pub pkinit_octets : Option (List ℕ) → List ℕ
+pkinit_octets None = []
+pkinit_octets (Some octets) = octets
+
+-- There are from 1 to as many octets as a record has room for, or none are given.
+abbrev pub is_pkinit : Option (List ℕ) → Bool
+is_pkinit None = true
+is_pkinit (Some octets) = nat_le 1 (length octets) && nat_le (length octets) PKINIT_ROOM
+
+-- The realm of this name, these settings and these octets, if there are settings and the name may be a realm's.
+abbrev pub named_realm : List ℕ → Option SettingsRecord → Option (List ℕ) → Option RealmParameters
+named_realm name None pkinit = None
+named_realm name (Some settings) pkinit = if is_realm_name name then Some (record { name = name; settings = settings; pkinit = pkinit }) else None
+
+-- The realm whose record the octets are, if they are one.
+unfoldable pub realm_in : List ℕ → Option RealmParameters
+realm_in octets =
+    if nat_lt (length octets) REALM_HEAD || not (slice_index octets 0 == RECORD_VERSION) then None
+    else (if nat_lt (length octets) (REALM_HEAD + le32_at 9 octets) then None
+    else named_realm (drop (REALM_HEAD + le32_at 9 octets) octets) (settings_of (le32_at 1 octets) (le32_at 5 octets) (le32_at 13 octets))
+    (pkinit_in (take (le32_at 9 octets) (drop REALM_HEAD octets))))
+
+-- The record of a realm.
+unfoldable pub realm_bytes : RealmParameters → List ℕ
+realm_bytes realm =
+    RECORD_VERSION ∷ (le32 realm.settings.skew ++ (le32 realm.settings.lifetime ++ (le32 (length (pkinit_octets realm.pkinit)) ++ (le32 (policy_number realm.settings.policy) ++ (pkinit_octets realm.pkinit ++ realm.name)))))
+
+-- The realm has a record: its name is one of a realm, and the octets have room.
+abbrev pub is_recorded : RealmParameters → Bool
+is_recorded realm = is_realm_name realm.name && is_pkinit realm.pkinit

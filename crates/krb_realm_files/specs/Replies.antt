@@ -1,0 +1,53 @@
+-- What the realm of a file replies that is opened anew for each message.
+use Rattle.std.specs.Prelude.{◌≡◌, ◌⊎◌, Option, None, Some, Ok, false}
+use Rattle.std.specs.declared.io.ErrorKind.{ErrorKind}
+use Rattle.picky_asn1.specs.Bytes.{Bytes}
+use Rattle.krb_messages.specs.RandomBytes.{Random}
+use Rattle.krb_time.specs.Units.{Micros}
+use Rattle.krb_accounts.specs.Accounts.{Look}
+use Rattle.krb_kdc_exchanges.specs.Call.{CallRecord}
+use Rattle.krb_kdc_exchanges.specs.Replies.{Replies}
+use Rattle.krb_realm_files.specs.Files.{IsLookOf, realm_said}
+use Rattle.krb_realm_files.specs.declared.realm_parameters.RealmParameters.{RealmParameters}
+use Rattle.krb_kdc.specs.Begins.{IsNoRequest}
+use Rattle.krb_realm_files.specs.Lacks.{IsLacking}
+use Rattle.krb_realm_files.specs.Means.{AreMeansIn, rows_of}
+use Rattle.krb_realm_files.specs.RefusedPkinit.{refused_rows}
+use Rattle.krb_realm_files.specs.declared.means.PkinitMeans.{PkinitMeans}
+
+-- A reply by these means, if logins by certificate are answered by these octets: they are the octets' means, or the reply is one by any
+-- means, as that to a request which isn't by certificate is.
+abbrev pub ReplyByOctets : Bytes → CallRecord → Bytes → Option Bytes → Type 0
+ReplyByOctets octets call message reply =
+    ((means : PkinitMeans) → Replies call (rows_of means) message reply)
+    ⊎ ((means : PkinitMeans) × AreMeansIn octets means × Replies call (rows_of means) message reply)
+
+-- A reply of a realm that answers no login by certificate, or one by these octets.
+abbrev pub ReplyBy : Option Bytes → CallRecord → Bytes → Option Bytes → Type 0
+ReplyBy None call message reply = Replies call (refused_rows false) message reply
+ReplyBy (Some octets) call message reply = ReplyByOctets octets call message reply
+
+-- A reply of this realm with all of these accounts.
+abbrev pub ReplyByRealm : RealmParameters → Look → Bytes → Micros → Random → Option Bytes → Type 0
+ReplyByRealm realm all message moment words reply =
+    ReplyBy realm.pkinit (record { realm = realm.name; settings = realm.settings; look = all; moment = moment; words = words }) message reply
+
+-- A reply that the realm of a file with these octets may give to a message at a moment, with random bytes. The realm's name and settings
+-- are those of the file, and so is what its logins by certificate are answered by. Its accounts are all of the file's, whatever stands
+-- where the file is damaged.
+abbrev pub FileReplies : Bytes → Bytes → Micros → Random → Bytes → Type 0
+FileReplies bytes message moment words reply =
+    (realm : RealmParameters) × (realm_said bytes ≡ Ok realm)
+    × ((all : Look) → IsLookOf bytes all → ReplyByRealm realm all message moment words (Some reply))
+
+-- A reply to a message at a moment, with random bytes: there is one file that may have been opened, and if its octets are known, the reply
+-- is that of their realm. There is none only if the message is no request.
+abbrev pub RepliesFrom : {F : Type 0} → (F → Type 0) → (F → Option Bytes) → Bytes → Micros → Random → Option Bytes → Type 0
+RepliesFrom opens content message moment words None = IsNoRequest message
+RepliesFrom {F} opens content message moment words (Some reply) =
+    (file : F) × opens file × ((bytes : Bytes) → content file ≡ Some bytes → FileReplies bytes message moment words reply)
+
+-- It may be that the file can't be opened, or that a file which was opened can't be read or is damaged.
+abbrev pub MayLack : {F : Type 0} → (F → Type 0) → (ErrorKind → Type 0) → (F → Option Bytes) → (F → ErrorKind → Type 0) → Type 0
+MayLack {F} opens fails content read_fails =
+    ((kind : ErrorKind) × fails kind) ⊎ ((file : F) × opens file × IsLacking (content file) (read_fails file))

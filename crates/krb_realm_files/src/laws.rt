@@ -1,0 +1,36 @@
+//! What holds of every record and of every file. Each is a function that does nothing when it runs: its contract is the law.
+ghost use Rattle.std.specs.Prelude.{◌≡◌, ◌≤◌, ◌<◌, ◌^◌, ℕ, List, Some, IsTrue, length};
+ghost use Rattle.block_ciphers.specs.Bytes.{IsBytes};
+ghost use Rattle.krb_accounts.specs.Account.{AccountRecord};
+ghost use Rattle.krb_accounts.specs.Settings.{AreSettings};
+ghost use Rattle.krb_crypto.specs.Suites.{cipher_key_size};
+ghost use Rattle.krb_kdc_exchanges.specs.Calls.{AreKeyed};
+ghost use Rattle.krb_realm_files.specs.AccountRecords.{account_bytes, account_in};
+ghost use Rattle.krb_realm_files.specs.Files.{IsLookOf, look_of};
+ghost use Rattle.krb_realm_files.specs.RealmRecords.{is_recorded, realm_bytes, realm_in};
+ghost use Rattle.krb_realm_files.specs.declared.realm_parameters.RealmParameters.{RealmParameters};
+
+/// The record of an account is read as that account, if its key has its suite's length and its kvno is at least 1 and below 2^32.
+pub fn account_as_written()
+    ensures { (account : AccountRecord) → length account.key ≡ cipher_key_size account.suite → 1 ≤ account.kvno → account.kvno < 2 ^ 32
+        → account_in (account_bytes account) ≡ Some account }
+{}
+
+/// The record of a realm is read as that realm, if its name is one of a realm, its settings are in their ranges, and logins by
+/// certificate are answered by as many octets as have room.
+pub fn realm_as_written()
+    ensures { (realm : RealmParameters) → IsTrue (is_recorded realm) → AreSettings realm.settings.skew realm.settings.lifetime
+        → realm_in (realm_bytes realm) ≡ Some realm }
+{}
+
+/// There are accounts that a file may have, whatever its octets are: those that they say, with none where they are damaged. So what
+/// is said of a reply for all such accounts is said for some.
+pub fn has_look()
+    ensures { (bytes : List ℕ) → IsLookOf bytes (look_of bytes) }
+{}
+
+/// Each account of a file has a key of its suite's length, whatever the file's octets are. So the file's realm has a reply to each message
+/// (law `has_reply` of `krb_kdc`).
+pub fn are_keyed()
+    ensures { (bytes : List ℕ) → IsBytes bytes → AreKeyed (look_of bytes) }
+{}

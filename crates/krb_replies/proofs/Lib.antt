@@ -1,4 +1,0 @@
-pub mod Errors
-pub mod Involved
-pub mod HasReply
-pub mod Answered

@@ -1,4 +1,0 @@
-pub mod Errors
-pub mod Replies
-pub mod Involved
-pub mod Judged

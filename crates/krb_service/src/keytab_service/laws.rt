@@ -1,0 +1,84 @@
+//! What holds of every service of a keytab.
+ghost use Rattle.std.specs.Prelude.{◌≡◌, ◌≤◌, ◌+◌, ◌++◌, ℕ, true, false, List, ◌∷◌, Result, Ok, Err, length, ◌↔◌};
+ghost use Rattle.krb_messages.specs.RandomBytes.{AreEnoughForApReply};
+ghost use Rattle.block_ciphers.specs.Bytes.{IsBytes};
+ghost use Rattle.decision_tables.specs.Some.{HasSome};
+ghost use Rattle.krb_messages.specs.Messages.{IsApReq};
+ghost use Rattle.krb_messages.specs.declared.messages.ap_req.ApReqInner.{ApReqInner};
+ghost use Rattle.krb_ap_requests.specs.ApTable.{enc_part_in};
+ghost use Rattle.krb_ap_requests.specs.Entry.{EntryRecord};
+ghost use Rattle.krb_ap_requests.specs.Presents.{Choice};
+ghost use Rattle.krb_ap_requests.specs.declared.refusal.AdmitRefusal.{AdmitRefusal};
+ghost use Rattle.krb_ap_requests.specs.declared.refusal.AdmitRefusal.TheVariants.{Krb};
+ghost use Rattle.krb_service.specs.Admission.{AdmissionRecord, TellsOf};
+ghost use Rattle.krb_service.specs.OnceForEver.{AreOnce, admissions_in};
+ghost use Rattle.krb_service.specs.Pair.{PairRecord};
+ghost use Rattle.krb_service.specs.RememberingService.{Outcome, remembering};
+ghost use Rattle.krb_service.specs.ChosenEntry.{IsOtherwiseFor, IsPresentedTo, is_fitted, is_fitting, unfit_code_of};
+ghost use Rattle.krb_service.specs.KeytabRuns.{AnswerAlike, IsKeytabRun, KeytabCall};
+ghost use Rattle.krb_service.specs.KeytabService.{AreOwnEntries, KeytabServiceRecord, remembering_by_keytab, service_for};
+
+/// The outcomes of a request are those of the service of one key that has the entry by which the request is judged. So what holds of every
+/// service of one key (`crate::laws`) holds of it. It does nothing when it runs: its contract is the law.
+pub fn as_one_key()
+    ensures { (service : KeytabServiceRecord) (moment : ℕ) (admitted : List PairRecord) (bytes words : List ℕ) (request : ApReqInner) (outcome : Outcome)
+        → IsApReq bytes request
+        → (remembering_by_keytab service moment admitted bytes words).gives outcome
+        ↔ (remembering (service_for service request) moment admitted bytes words).gives outcome }
+{}
+
+/// What is admitted was presented under the key of the entry by which it is judged, and the admission has the client and the keys as they
+/// were chosen. It does nothing when it runs: its contract is the law.
+pub fn admitted_as_presented()
+    ensures { (service : KeytabServiceRecord) (moment : ℕ) (admitted : List PairRecord) (bytes words : List ℕ) (admission : AdmissionRecord) (after : List PairRecord)
+        → (remembering_by_keytab service moment admitted bytes words).gives (Ok admission, after)
+        → (choice : Choice) × IsPresentedTo service.entries choice bytes × TellsOf choice admission }
+{}
+
+/// A service has one answer at most to a call, and one list of admitted pairs after it. It does nothing when it runs:
+/// its contract is the law.
+pub fn one_outcome()
+    ensures { (service : KeytabServiceRecord) (moment : ℕ) (admitted : List PairRecord) (bytes words : List ℕ) (a b : Outcome)
+        → (remembering_by_keytab service moment admitted bytes words).gives a → (remembering_by_keytab service moment admitted bytes words).gives b → a ≡ b }
+{}
+
+/// Each call has an outcome: it can't be that the service's table gives nothing. It does nothing when it runs: its
+/// contract is the law.
+pub fn has_outcome()
+    ensures { (service : KeytabServiceRecord) (moment : ℕ) (admitted : List PairRecord) (bytes words : List ℕ)
+        → AreEnoughForApReply words → IsBytes words → HasSome (remembering_by_keytab service moment admitted bytes words).gives }
+{}
+
+/// Over any list of calls, with any entries at each of them, no client is admitted twice with one authenticator time: each admission adds
+/// one pair of client and time, and no pair is there twice. It does nothing when it runs: its contract is the law.
+pub fn once_for_ever()
+    ensures { (service : KeytabServiceRecord) (greatest : ℕ) (admitted : List PairRecord) (calls : List KeytabCall)
+        (answers : List (Result AdmissionRecord AdmitRefusal)) (after : List PairRecord)
+        → AreOnce admitted → IsKeytabRun service greatest admitted calls answers after
+        → AreOnce after × (length after ≡ admissions_in answers + length admitted) }
+{}
+
+/// An entry that is added or taken away changes no answer to a request whose ticket an entry before it fits, nor to one whose ticket it
+/// doesn't fit, if another does. It does nothing when it runs: its contract is the law.
+pub fn other_entries_alone()
+    ensures earlier { (service : KeytabServiceRecord) (before behind : List EntryRecord) (entry : EntryRecord) (bytes : List ℕ) (request : ApReqInner)
+        → IsApReq bytes request → is_fitted before (enc_part_in request) ≡ true
+        → AnswerAlike service (before ++ entry ∷ behind) (before ++ behind) bytes }
+    ensures unfit { (service : KeytabServiceRecord) (before behind : List EntryRecord) (entry : EntryRecord) (bytes : List ℕ) (request : ApReqInner)
+        → IsApReq bytes request → is_fitting (enc_part_in request) entry ≡ false → is_fitted (before ++ behind) (enc_part_in request) ≡ true
+        → AnswerAlike service (before ++ entry ∷ behind) (before ++ behind) bytes }
+{}
+
+/// A request whose ticket no entry fits isn't admitted. If it is else one for this service, the refusal is KRB_AP_ERR_NOKEY where some entry
+/// has the ticket's kvno, and KRB_AP_ERR_BADKEYVER where none has it, in whatever order the entries are. It does nothing when it runs: its
+/// contract is the law.
+pub fn unfit_is_refused()
+    ensures never { (service : KeytabServiceRecord) (moment : ℕ) (admitted : List PairRecord) (bytes words : List ℕ) (request : ApReqInner)
+        (admission : AdmissionRecord) (after : List PairRecord)
+        → IsApReq bytes request → 1 ≤ length service.entries → is_fitted service.entries (enc_part_in request) ≡ false
+        → (remembering_by_keytab service moment admitted bytes words).gives (Ok admission, after) → ⊥ }
+    ensures code { (service : KeytabServiceRecord) (moment : ℕ) (admitted : List PairRecord) (bytes words : List ℕ) (request : ApReqInner)
+        → IsApReq bytes request → AreOwnEntries service.realm service.components service.entries
+        → IsOtherwiseFor service.realm service.components request → is_fitted service.entries (enc_part_in request) ≡ false
+        → (remembering_by_keytab service moment admitted bytes words).gives (Err (Krb (unfit_code_of service.entries (enc_part_in request))), admitted) }
+{}

@@ -1,6 +1,0 @@
-use Rattle.std.proofs.Common.{◌≡◌, ◌++◌, take}
-use Rattle.krb_settings_check.specs.Warnings.{met}
-use Rattle.krb_settings_check.proofs.warnings.add.Given as goal
-
-abbrev pub invariant-loop-case : goal.invariant-loop-case
-invariant-loop-case l = l.found.items ≡ l.initial.found.items ++ met l.place (take l.case-index l.cases)

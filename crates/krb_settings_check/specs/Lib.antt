@@ -1,3 +1,0 @@
-pub mod Messages
-pub mod Warnings
-pub mod WeakKeys

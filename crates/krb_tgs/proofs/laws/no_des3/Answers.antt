@@ -1,5 +1,0 @@
-use Rattle.krb_tgs.proofs.GrantedSuites.{never_des3}
-use Rattle.krb_tgs.proofs.laws.no_des3.Goals as goal
-
-pub returns : goal.returns
-returns c = λ policy client service numbers limits none other. never_des3 policy client service numbers limits none other

@@ -1,3 +1,0 @@
-pub mod TgsTable
-pub mod SessionKeys
-pub mod ByTicket

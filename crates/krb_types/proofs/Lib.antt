@@ -1,2 +1,0 @@
-pub mod NamesRead
-pub mod PrintedNames

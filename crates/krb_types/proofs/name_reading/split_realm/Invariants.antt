@@ -1,5 +1,0 @@
-use Rattle.krb_types.proofs.NamesRead.{IsSplit}
-use Rattle.krb_types.proofs.name_reading.split_realm.Given as goal
-
-abbrev pub invariant-loop-index : goal.invariant-loop-index
-invariant-loop-index l = IsSplit l.text l.index l.quoted

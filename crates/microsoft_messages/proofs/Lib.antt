@@ -1,0 +1,9 @@
+pub mod FrameLaws
+pub mod ReadingLaws
+pub mod FoundLaws
+pub mod InfoLaws
+pub mod OnlyLaws
+pub mod PacReadingLaws
+pub mod RefusalLaws
+pub mod StopLaws
+pub mod WritingLaws

@@ -1,0 +1,8 @@
+use Rattle.asn1_codec.proofs.Chain.{at-exit, refused-as}
+use Rattle.microsoft_messages.specs.ApMessages.{ap_choice}
+use Rattle.microsoft_messages.proofs.ap_message.ApMessageDeserialize.deserialize.Goals as goal
+
+pub returns-in_err-choice : goal.returns-in_err-choice
+returns-in_err-choice g c =
+    at-exit _ _ _ _ c.from_residual.ensures.1
+    (refused-as _ _ _ _ _ c.in_err-choice.ensures (λ bytes q. (ap_choice q.0, q.1)))

@@ -1,0 +1,11 @@
+pub mod Frames
+pub mod Reading
+pub mod Writing
+pub mod ApMessages
+pub mod Trees
+pub mod Buffers
+pub mod Faults
+pub mod Kinds
+pub mod PacReading
+pub mod Refusals
+pub mod PacWriting

@@ -1,2 +1,0 @@
-pub mod StructLaws
-pub mod Structs

@@ -1,3 +1,0 @@
-pub mod ElementsPut
-pub mod ElementsRead
-pub mod PairPut

@@ -1,5 +1,0 @@
-mod Told
-mod Judged
-mod JudgedParts
-mod SignerLemmas
-mod SignedLemmas

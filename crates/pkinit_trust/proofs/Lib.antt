@@ -1,2 +1,0 @@
-mod AnchorLemmas
-mod TrustLemmas

@@ -1,0 +1,7 @@
+mod AnchorLemmas
+mod TrustLemmas
+mod Told
+mod Judged
+mod JudgedParts
+mod SignerLemmas
+mod SignedLemmas

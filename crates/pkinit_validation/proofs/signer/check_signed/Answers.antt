@@ -1,0 +1,12 @@
+use Rattle.pkinit_validation.specs.Expected.{expected_of}
+use Rattle.pkinit_validation.proofs.SignerLemmas.{signed, refused_as}
+use Rattle.pkinit_validation.proofs.signer.check_signed.Goals as goal
+
+pub returns-in-Ok : goal.returns-in-Ok
+returns-in-Ok g c =
+    signed (g.K.KeyFunctions.functions c.args.keys.now) (expected_of c.args.expected.now) c.args.content.now _ c.from-judged.ensures c.in-Ok.ensures
+
+pub returns-in-Err : goal.returns-in-Err
+returns-in-Err g c =
+    refused_as (g.K.KeyFunctions.functions c.args.keys.now) (expected_of c.args.expected.now) c.args.content.now _ c.from-judged.ensures
+    c.in-Err.fault _ c.from.ensures c.in-Err.ensures

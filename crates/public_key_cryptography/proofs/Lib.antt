@@ -1,0 +1,5 @@
+pub mod Pieces
+pub mod Refusals
+pub mod PrimeRefusals
+pub mod Roots
+pub mod Secrets

@@ -1,0 +1,20 @@
+use Rattle.std.proofs.Common.{None, refl, sym}
+use Rattle.public_key_cryptography.proofs.Refusals.{by_modulus, by_further, fits}
+use Rattle.public_key_cryptography.proofs.public_key.PublicKey.new.Goals as goal
+
+pub returns-in-Err : goal.returns-in-Err
+returns-in-Err c = by_modulus _ _ _ c.in-Err.ensures
+
+pub returns-in-Some : goal.returns-in-Some
+returns-in-Some c = by_further _ _ _ c.in-Ok.ensures.taken c.in-Some.ensures
+
+pub exponent_of-exponent-requires : goal.exponent_of-exponent-requires
+exponent_of-exponent-requires c = (fits c.args.numbers.now.modulus.now c.args.numbers.now.exponent.now (sym c.in-None.ensures)).short
+
+pub returns : goal.returns
+returns c = record {
+  taken = by_further _ _ None c.in-Ok.ensures.taken c.in-None.ensures;
+  modulus = c.in-Ok.ensures;
+  len = refl;
+  exponent = c.exponent_of-exponent.ensures;
+}

@@ -1,0 +1,4 @@
+pub mod Keys
+pub mod Pkcs1
+pub mod Primes
+pub mod Agreements

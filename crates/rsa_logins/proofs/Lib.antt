@@ -1,2 +1,0 @@
-mod ByRsa
-mod PublicKeys

@@ -1,4 +1,0 @@
-pub mod Pieces
-pub mod Refusals
-pub mod PrimeRefusals
-pub mod Roots

@@ -1,6 +1,0 @@
-use Rattle.std.proofs.Common.{◌∙◌, arith}
-use Rattle.rsa_pkcs1.proofs.Refusals.{single}
-use Rattle.rsa_pkcs1.proofs.public_key.exponent_of.Goals as goal
-
-pub returns : goal.returns
-returns c = single c.read_octets.new.words (omega arith) ∙ c.read_octets.ensures

@@ -1,3 +1,0 @@
-pub mod Keys
-pub mod Pkcs1
-pub mod Primes

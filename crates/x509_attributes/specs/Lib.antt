@@ -1,4 +1,0 @@
-pub mod AttributeLaws
-pub mod AttributeMade
-pub mod AttributeValues
-pub mod NoAttributes

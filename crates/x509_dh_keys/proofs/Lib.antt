@@ -1,4 +1,0 @@
-pub mod Elements
-pub mod Found
-pub mod Groups
-mod Signs

@@ -1,6 +1,0 @@
-use Rattle.std.proofs.Common.{◌∙◌}
-use Rattle.x509_dh_keys.proofs.Groups.{tables}
-use Rattle.x509_dh_keys.proofs.algorithm.algorithm_of.Goals as goal
-
-pub returns : goal.returns
-returns c = c.table_of.ensures ∙ tables c.args.group

@@ -1,0 +1,4 @@
+mod BmpLemmas
+pub mod AgreedLemmas
+mod NameLemmas
+mod TextLemmas

@@ -1,0 +1,15 @@
+pub mod DirectoryStrings
+pub mod RawParameters
+pub mod Times
+pub mod Versions
+pub mod AttributeLaws
+pub mod AttributeMade
+pub mod Attributes
+pub mod EdiNames
+pub mod GeneralNames
+pub mod GeneralText
+pub mod NameAttrs
+pub mod NameRows
+pub mod NameText
+pub mod Parameters
+pub mod Rfc4514

@@ -1,3 +1,0 @@
-pub mod AgreedLemmas
-mod NameLemmas
-mod TextLemmas

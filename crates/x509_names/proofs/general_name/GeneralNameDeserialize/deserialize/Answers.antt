@@ -1,8 +1,0 @@
-use Rattle.asn1_codec.proofs.Chain.{at-exit, refused-as}
-use Rattle.x509_names.specs.GeneralNames.{general_choice}
-use Rattle.x509_names.proofs.general_name.GeneralNameDeserialize.deserialize.Goals as goal
-
-pub returns-in_err-choice : goal.returns-in_err-choice
-returns-in_err-choice g c =
-    at-exit _ _ _ _ c.from_residual.ensures.1
-    (refused-as _ _ _ _ _ c.in_err-choice.ensures (λ bytes q. (general_choice q.0, q.1)))

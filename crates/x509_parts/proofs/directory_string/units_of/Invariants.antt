@@ -1,9 +1,0 @@
-use Rattle.std.proofs.Common.{◌≡◌, ◌++◌, length}
-use Rattle.x509_parts.specs.DirectoryStrings.{utf16_units}
-use Rattle.x509_parts.proofs.directory_string.units_of.Given as goal
-
-abbrev pub invariant-units : goal.invariant-units
-invariant-units l = utf16_units l.octets ≡ l.units.items ++ utf16_units l.rest
-
-abbrev pub decreases-units : goal.decreases-units
-decreases-units l = length l.rest

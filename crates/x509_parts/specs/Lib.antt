@@ -1,4 +1,0 @@
-pub mod DirectoryStrings
-pub mod RawParameters
-pub mod Times
-pub mod Versions
