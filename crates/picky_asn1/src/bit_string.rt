@@ -9,10 +9,19 @@ use std::alloc::{AllocError, Global};
 use std::marker::Model;
 
 /// A BIT STRING (X.690, sections 8.6 and 11.2). A contract sees its octets and how many bits of the last are unused.
-#[derive(Drop, Debug)]
+#[derive(Debug)]
 pub struct BitStringAsn1 {
     octets: Vec<u8>,
     unused: u8,
+}
+
+impl Drop for BitStringAsn1 {
+    fn drop(self) {
+        let BitStringAsn1 {
+            octets: _,
+            unused: _,
+        } = self;
+    }
 }
 
 /// A BIT STRING, by the ported crate's name of its value.

@@ -11,9 +11,15 @@ use std::marker::Model;
 
 /// A GeneralString of characters below 128, the only ones that Kerberos has in it (RFC 4120, section 5.2.1). A
 /// contract sees their list.
-#[derive(Drop, Debug)]
+#[derive(Debug)]
 pub struct GeneralStringAsn1 {
     text: RestrictedString<GeneralCharSet>,
+}
+
+impl Drop for GeneralStringAsn1 {
+    fn drop(self) {
+        let GeneralStringAsn1 { text: _ } = self;
+    }
 }
 
 impl Model for GeneralStringAsn1 {

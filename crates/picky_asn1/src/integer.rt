@@ -11,9 +11,15 @@ use std::alloc::{AllocError, Global};
 use std::marker::Model;
 
 /// An INTEGER of any size and sign (X.690, section 8.3). A contract sees a whole number.
-#[derive(Drop, Debug)]
+#[derive(Debug)]
 pub struct IntegerAsn1 {
     octets: FewOctets,
+}
+
+impl Drop for IntegerAsn1 {
+    fn drop(self) {
+        let IntegerAsn1 { octets: _ } = self;
+    }
 }
 
 impl Model for IntegerAsn1 {

@@ -9,9 +9,15 @@ use std::alloc::{AllocError, Global};
 use std::marker::Model;
 
 /// An OCTET STRING (X.690, section 8.7): any octets. A contract sees their list.
-#[derive(Drop, Debug)]
+#[derive(Debug)]
 pub struct OctetStringAsn1 {
     octets: Vec<u8>,
+}
+
+impl Drop for OctetStringAsn1 {
+    fn drop(self) {
+        let OctetStringAsn1 { octets: _ } = self;
+    }
 }
 
 impl Model for OctetStringAsn1 {
@@ -39,6 +45,16 @@ impl OctetStringAsn1 {
     }
 }
 
+impl OctetStringAsn1 {
+    /// The octets.
+    fn into_octets(self) -> Vec<u8>
+        ensures { result.items ≡ self }
+    {
+        let OctetStringAsn1 { octets } = self;
+        octets
+    }
+}
+
 impl Clone for OctetStringAsn1 {
     ghost is_clone = { λ string copy. copy ≡ string };
 
@@ -60,8 +76,7 @@ impl From<OctetStringAsn1> for Vec<u8> {
     ghost from_gives = { λ s octets. octets.items ≡ s };
 
     fn from(string: OctetStringAsn1) -> Vec<u8> {
-        let OctetStringAsn1 { octets } = string;
-        octets
+        string.into_octets()
     }
 }
 

@@ -11,10 +11,16 @@ use std::marker::{Model, PhantomData};
 use std::{fmt, str};
 
 /// A text of the character set `C`. A contract sees the list of its octets.
-#[derive(Drop, Debug)]
+#[derive(Debug)]
 pub struct RestrictedString<C: CharSet> {
     octets: Vec<u8>,
     set: PhantomData<C>,
+}
+
+impl<C: CharSet> Drop for RestrictedString<C> {
+    fn drop(self) {
+        let RestrictedString { octets: _, set: _ } = self;
+    }
 }
 
 /// The text of a UTF8String, by the ported crate's name.

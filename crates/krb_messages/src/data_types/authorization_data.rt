@@ -10,12 +10,21 @@ use picky_asn1_der::{
 };
 
 /// One entry of authorization data (RFC 4120, section 5.2.6).
-#[derive(Debug, Drop, PartialEq, Eq, Clone)]
+#[derive(Debug, PartialEq, Eq, Clone)]
 pub struct AuthorizationDataInner {
     /// What the entry holds (RFC 4120, section 7.5.4); a negative type is for use within one site.
     pub ad_type: ExplicitContextTag0<IntegerAsn1>,
     /// The data of that type.
     pub ad_data: ExplicitContextTag1<OctetStringAsn1>,
+}
+
+impl Drop for AuthorizationDataInner {
+    fn drop(self) {
+        let AuthorizationDataInner {
+            ad_type: _,
+            ad_data: _,
+        } = self;
+    }
 }
 
 /// Authorization data (RFC 4120, section 5.2.6): entries that narrow what a ticket grants.

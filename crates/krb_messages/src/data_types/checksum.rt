@@ -16,12 +16,21 @@ use picky_asn1_der::{
 ///      cksumtype   [0] Int32,
 ///      checksum    [1] OCTET STRING }
 /// ```
-#[derive(Debug, Drop, PartialEq, Eq, Clone)]
+#[derive(Debug, PartialEq, Eq, Clone)]
 pub struct Checksum {
     /// The checksum type (RFC 3961, section 8).
     pub cksumtype: ExplicitContextTag0<IntegerAsn1>,
     /// The bytes of the checksum.
     pub checksum: ExplicitContextTag1<OctetStringAsn1>,
+}
+
+impl Drop for Checksum {
+    fn drop(self) {
+        let Checksum {
+            cksumtype: _,
+            checksum: _,
+        } = self;
+    }
 }
 
 type ChecksumRow = Row2<ExplicitContextTag0<IntegerAsn1>, ExplicitContextTag1<OctetStringAsn1>>;

@@ -17,7 +17,7 @@ use picky_asn1_der::{
 ///      kvno     [1] UInt32 OPTIONAL,
 ///      cipher   [2] OCTET STRING -- ciphertext -- }
 /// ```
-#[derive(Debug, Drop, PartialEq, Eq, Clone)]
+#[derive(Debug, PartialEq, Eq, Clone)]
 pub struct EncryptedData {
     /// The encryption type.
     pub etype: ExplicitContextTag0<IntegerAsn1>,
@@ -25,6 +25,16 @@ pub struct EncryptedData {
     pub kvno: Optional<Option<ExplicitContextTag1<IntegerAsn1>>>,
     /// The ciphertext.
     pub cipher: ExplicitContextTag2<OctetStringAsn1>,
+}
+
+impl Drop for EncryptedData {
+    fn drop(self) {
+        let EncryptedData {
+            etype: _,
+            kvno: _,
+            cipher: _,
+        } = self;
+    }
 }
 
 type EncryptedDataRow = Row3<

@@ -16,12 +16,21 @@ use picky_asn1_der::{
 ///      keytype    [0] Int32,
 ///      keyvalue   [1] OCTET STRING }
 /// ```
-#[derive(Debug, Drop, PartialEq, Eq, Clone)]
+#[derive(Debug, PartialEq, Eq, Clone)]
 pub struct EncryptionKey {
     /// The encryption type that the key is for (RFC 3961, section 8).
     pub key_type: ExplicitContextTag0<IntegerAsn1>,
     /// The bytes of the key.
     pub key_value: ExplicitContextTag1<OctetStringAsn1>,
+}
+
+impl Drop for EncryptionKey {
+    fn drop(self) {
+        let EncryptionKey {
+            key_type: _,
+            key_value: _,
+        } = self;
+    }
 }
 
 type EncryptionKeyRow = Row2<

@@ -18,7 +18,7 @@ use picky_asn1_der::{
 ///      salt        [1] KerberosString OPTIONAL,
 ///      s2kparams   [2] OCTET STRING OPTIONAL }
 /// ```
-#[derive(Debug, Drop, PartialEq, Eq, Clone)]
+#[derive(Debug, PartialEq, Eq, Clone)]
 pub struct EtypeInfo2Entry {
     /// The encryption type.
     pub etype: ExplicitContextTag0<IntegerAsn1>,
@@ -26,6 +26,16 @@ pub struct EtypeInfo2Entry {
     pub salt: Optional<Option<ExplicitContextTag1<KerberosStringAsn1>>>,
     /// Further parameters of the encryption type's own.
     pub s2kparams: Optional<Option<ExplicitContextTag2<OctetStringAsn1>>>,
+}
+
+impl Drop for EtypeInfo2Entry {
+    fn drop(self) {
+        let EtypeInfo2Entry {
+            etype: _,
+            salt: _,
+            s2kparams: _,
+        } = self;
+    }
 }
 
 /// The entries of ETYPE-INFO2, in the KDC's order of preference (RFC 4120, section 5.2.7.5). The standard's list is never empty. An

@@ -16,12 +16,21 @@ use picky_asn1_der::{
 ///      addr-type   [0] Int32,
 ///      address     [1] OCTET STRING }
 /// ```
-#[derive(Debug, Drop, PartialEq, Eq, Clone)]
+#[derive(Debug, PartialEq, Eq, Clone)]
 pub struct HostAddress {
     /// The address type (RFC 4120, section 7.5.3).
     pub addr_type: ExplicitContextTag0<IntegerAsn1>,
     /// The address.
     pub address: ExplicitContextTag1<OctetStringAsn1>,
+}
+
+impl Drop for HostAddress {
+    fn drop(self) {
+        let HostAddress {
+            addr_type: _,
+            address: _,
+        } = self;
+    }
 }
 
 /// A list of addresses (RFC 4120, section 5.2.5).

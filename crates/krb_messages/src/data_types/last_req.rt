@@ -11,12 +11,21 @@ use picky_asn1_der::{
 };
 
 /// A time of a last request (RFC 4120, section 5.4.2).
-#[derive(Debug, Drop, PartialEq, Eq, Clone)]
+#[derive(Debug, PartialEq, Eq, Clone)]
 pub struct LastReqInner {
     /// Which request the time is of; 0 means that the time says nothing.
     pub lr_type: ExplicitContextTag0<IntegerAsn1>,
     /// The time.
     pub lr_value: ExplicitContextTag1<KerberosTime>,
+}
+
+impl Drop for LastReqInner {
+    fn drop(self) {
+        let LastReqInner {
+            lr_type: _,
+            lr_value: _,
+        } = self;
+    }
 }
 
 /// The times of a client's last requests (RFC 4120, section 5.4.2).

@@ -17,12 +17,21 @@ use picky_asn1_der::{
 ///      padata-type    [1] Int32,
 ///      padata-value   [2] OCTET STRING }
 /// ```
-#[derive(Debug, Drop, PartialEq, Eq, Clone)]
+#[derive(Debug, PartialEq, Eq, Clone)]
 pub struct PaData {
     /// What the entry holds (RFC 4120, section 7.5.2).
     pub padata_type: ExplicitContextTag1<IntegerAsn1>,
     /// The data of that type.
     pub padata_data: ExplicitContextTag2<OctetStringAsn1>,
+}
+
+impl Drop for PaData {
+    fn drop(self) {
+        let PaData {
+            padata_type: _,
+            padata_data: _,
+        } = self;
+    }
 }
 
 type PaDataRow = Row2<ExplicitContextTag1<IntegerAsn1>, ExplicitContextTag2<OctetStringAsn1>>;

@@ -16,12 +16,21 @@ use picky_asn1_der::{
 ///      patimestamp   [0] KerberosTime,
 ///      pausec        [1] Microseconds OPTIONAL }
 /// ```
-#[derive(Debug, Drop, PartialEq, Eq, Clone)]
+#[derive(Debug, PartialEq, Eq, Clone)]
 pub struct PaEncTsEnc {
     /// The client's time.
     pub patimestamp: ExplicitContextTag0<KerberosTime>,
     /// The microseconds of the client's time.
     pub pausec: Optional<Option<ExplicitContextTag1<Microseconds>>>,
+}
+
+impl Drop for PaEncTsEnc {
+    fn drop(self) {
+        let PaEncTsEnc {
+            patimestamp: _,
+            pausec: _,
+        } = self;
+    }
 }
 
 /// A sealed [`PaEncTsEnc`] (RFC 4120, section 5.2.7.2).

@@ -19,12 +19,21 @@ use std::alloc::AllocError;
 ///      name-type     [0] Int32,
 ///      name-string   [1] SEQUENCE OF KerberosString }
 /// ```
-#[derive(Debug, Drop, PartialEq, Eq)]
+#[derive(Debug, PartialEq, Eq)]
 pub struct PrincipalName {
     /// The name type (RFC 4120, section 6.2).
     pub name_type: ExplicitContextTag0<IntegerAsn1>,
     /// The components, in order.
     pub name_string: ExplicitContextTag1<Asn1SequenceOf<KerberosStringAsn1>>,
+}
+
+impl Drop for PrincipalName {
+    fn drop(self) {
+        let PrincipalName {
+            name_type: _,
+            name_string: _,
+        } = self;
+    }
 }
 
 impl Clone for PrincipalName {

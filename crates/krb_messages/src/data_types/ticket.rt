@@ -22,7 +22,7 @@ use std::alloc::AllocError;
 ///      sname      [2] PrincipalName,
 ///      enc-part   [3] EncryptedData -- EncTicketPart -- }
 /// ```
-#[derive(Debug, Drop, PartialEq, Eq)]
+#[derive(Debug, PartialEq, Eq)]
 pub struct TicketInner {
     /// The version, 5.
     pub tkt_vno: ExplicitContextTag0<IntegerAsn1>,
@@ -32,6 +32,17 @@ pub struct TicketInner {
     pub sname: ExplicitContextTag2<PrincipalName>,
     /// The part under the service's key.
     pub enc_part: ExplicitContextTag3<EncryptedData>,
+}
+
+impl Drop for TicketInner {
+    fn drop(self) {
+        let TicketInner {
+            tkt_vno: _,
+            realm: _,
+            sname: _,
+            enc_part: _,
+        } = self;
+    }
 }
 
 /// A ticket (RFC 4120, section 5.3).

@@ -16,12 +16,21 @@ use picky_asn1_der::{
 ///      tr-type    [0] Int32 -- must be registered --,
 ///      contents   [1] OCTET STRING }
 /// ```
-#[derive(Debug, Drop, PartialEq, Eq, Clone)]
+#[derive(Debug, PartialEq, Eq, Clone)]
 pub struct TransitedEncoding {
     /// How the contents are spelled (RFC 4120, section 7.5.5): 1 is DOMAIN-X500-COMPRESS.
     pub tr_type: ExplicitContextTag0<IntegerAsn1>,
     /// The realms in that spelling (RFC 4120, section 3.3.3.2); empty where there are none.
     pub contents: ExplicitContextTag1<OctetStringAsn1>,
+}
+
+impl Drop for TransitedEncoding {
+    fn drop(self) {
+        let TransitedEncoding {
+            tr_type: _,
+            contents: _,
+        } = self;
+    }
 }
 
 type TransitedEncodingRow = Row2<
