@@ -18,8 +18,6 @@ places() {
         home=
         case $path in
             crypto::diffie_hellman::*) crates=krb_crypto ;;
-            crypto::des::*) crates='krb_crypto encryption_profiles block_ciphers' ;;
-            crypto::aes::*) crates='krb_crypto encryption_profiles block_ciphers' ;;
             crypto::*) crates='krb_crypto encryption_profiles block_ciphers' ;;
             *) crates=$others ;;
         esac

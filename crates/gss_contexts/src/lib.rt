@@ -6,9 +6,9 @@
 //! its keys. Triple DES has no tokens here: its contexts use those of RFC 1964.
 //!
 //! `KrbMessage` and `IAKerbProxyMessage` are read if and only if a token of theirs begins the bytes (laws `one_krb_message`,
-//! `one_proxy_message`). The tokens of SPNEGO are read if and only if the bytes are their one encoding, and are written as it. A MIC or
+//! `one_proxy_message`). What is written of these is read again (law `written_is_read`). The tokens of SPNEGO are read if and only if the bytes are their one encoding, and are written as it. A MIC or
 //! wrap token that is read or written is laid out in the bytes that were taken or given (`IsMicToken`, `IsWrapToken`), and the first wrong
-//! field decides the refusal. What is written is read again (law `written_is_read`). `Context::get_mic` and `Context::wrap` make a token
+//! field decides the refusal. `Context::get_mic` and `Context::wrap` make a token
 //! of the message under the key, with the next number. `Context::verify_mic` and `Context::unwrap` take a token if it is the peer's, under
 //! the key, with a number that isn't old, and no other. The last number of 64 bits is refused. Where the initiator asked for sequencing it
 //! is the next number. The first reason against a token decides the refusal (`IsMicRefusal`, `IsWrapRefusal`), and a refused call changes

@@ -28,7 +28,7 @@ use Rattle.krb_logins.specs.Honest as logins
 use Rattle.krb_logins.specs.Parties.{LoginRecord, RealmRecord, RememberedRecord}
 use Rattle.krb_logins.proofs.Admissible.{admissible, client_name, client_realm, for_part, part_sealed, realm_name, service_name}
 use Rattle.krb_logins.proofs.GrantTaken.{session_key_sized}
-use Rattle.krb_logins.proofs.Presenting.{seals_part}
+use Rattle.krb_logins.proofs.PresentedRuns.{seals_part}
 use Rattle.krb_logins.proofs.WholePresented.{whole_part, whole_ticket}
 use Rattle.gss_acceptor.specs.declared.checksum.InitialChecksum.{InitialChecksum}
 use Rattle.gss_acceptor.specs.declared.terms.AcceptorTerms.{AcceptorTerms}

@@ -12,7 +12,6 @@
 //! `login_by_keytab`, `login_by_means`, `ticket_for`). So whatever a KDC answers, it gets two requests at most (law `few_requests`), no
 //! credential has a session key of a suite that wasn't wanted (law `wanted_session_keys`), and no answer weakens a login (laws
 //! `no_answer_weakens`, `default_salt_alone`).
-//!
 //! `first_request`, `as_request_of_suites` and `tgs_request_of_suites` write the one encoding of a request that lists suites
 //! (`first_request_bytes`, `AsksAsOfSuites`, `AsksTgsOfSuites`). `key_hint` and `key_hint_of_reply` return what the tables `error_hint` and
 //! `reply_hint` give: suite and salt of the first entry whose suite is a given one. `s2kparams` other than the suite's own are refused. The key

@@ -159,28 +159,28 @@ fn is_newer(
     client: &Client,
     suite: CipherSuite,
     newest: Option<&KeytabRecord>,
-    record: &KeytabRecord,
+    candidate: &KeytabRecord,
 ) -> bool
-    ensures { result ≡ is_newer client.now suite (option_copied newest.entry) record.now }
+    ensures { result ≡ is_newer client.now suite (option_copied newest.entry) candidate.now }
 {
-    is_key_of(client, suite, record) && is_no_older(newest, record)
+    is_key_of(client, suite, candidate) && is_no_older(newest, candidate)
 }
 
-fn is_no_older(newest: Option<&KeytabRecord>, record: &KeytabRecord) -> bool
-    ensures { result ≡ is_no_older (option_copied newest.entry) record.now }
+fn is_no_older(newest: Option<&KeytabRecord>, candidate: &KeytabRecord) -> bool
+    ensures { result ≡ is_no_older (option_copied newest.entry) candidate.now }
 {
     match newest {
-        Some(other) => other.kvno() <= record.kvno(),
+        Some(other) => other.kvno() <= candidate.kvno(),
         None => true,
     }
 }
 
 // Whether a record is a key of the client of the suite.
-fn is_key_of(client: &Client, suite: CipherSuite, record: &KeytabRecord) -> bool
-    ensures { result ≡ is_key_of client.now suite record.now }
+fn is_key_of(client: &Client, suite: CipherSuite, candidate: &KeytabRecord) -> bool
+    ensures { result ≡ is_key_of client.now suite candidate.now }
 {
-    is_same_realm(record.realm(), client.realm())
-        && is_same_name(record.components(), client.components())
-        && record.etype() == u16::from(u8::from(suite))
-        && record.key_octets().len() == suite.key_size()
+    is_same_realm(candidate.realm(), client.realm())
+        && is_same_name(candidate.components(), client.components())
+        && candidate.etype() == u16::from(u8::from(suite))
+        && candidate.key_octets().len() == suite.key_size()
 }

@@ -34,8 +34,8 @@ impl<'a, F: Eprint> FaultReporter for Reporter<'a, F> {
 /// each.
 ///
 /// It stops before the first message if the database has no realm that can be read, or if the file of random octets can't be opened, or
-/// gives none. Its status is 1 then, and nothing was read or written. If the database can't be used later on, it stops at that message. What was wrong has been said on standard error then.
-/// It warns on standard error where others may read or write the database.
+/// gives none. Its status is 1 then, and nothing was read or written. If the database can't be used later on, it stops at that message.
+/// What was wrong has been said on standard error then. It warns on standard error where others may read or write the database.
 pub fn serve_database<'a, F: Files<File = File> + Clock + Eprint + AllocGlobal, R: Source, W: Sink>(
     rt: &F,
     served: Served<'a>,

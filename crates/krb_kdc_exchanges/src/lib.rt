@@ -9,8 +9,9 @@
 //! version, type, realm, options and times of a request. The first row that holds decides, unless memory runs out (`IsJudged`). `judge_as`
 //! gives the reply that `as_table` grants, or the code of the first row that refuses, for each implementation of `Pkinit`. `Pkinit::judge`
 //! gives an outcome of its own table, which has one for each request (`PkinitRows`). `judge_tgs` gives the reply that `tgs_table` grants,
-//! or the code of the first row that refuses. The checksum covers the one encoding of the body, which is a part of the request's own bytes
-//! (laws `body_is_part`, `as_body_is_part`, `padata_is_part`). `as_reply` and `tgs_reply` give a reply that the table allows: a ticket, or
+//! or the code of the first row that refuses. The checksum of a TGS request covers the one encoding of the body. In a request with padata
+//! the body is a part of the request's own bytes (laws `body_is_part`, `as_body_is_part`), and so is the first padata of a type in an AS
+//! request (law `padata_is_part`). `as_reply` and `tgs_reply` give a reply that the table allows: a ticket, or
 //! a KRB-ERROR with its code. A message has one reply at most, and a request has one (laws `one_reply`, `has_reply`). The reply depends on
 //! the involved accounts alone (law `of_involved_alone`).
 #![tactic(auto)]

@@ -13,7 +13,8 @@ use std::time::{Clock, Instant};
 /// loop writes the reply's frame after that.
 ///
 /// The line's time is the moment at which the message is answered. What is told of a refusal is found out after the answer, and isn't in
-/// the time that it took. If there is no memory for a line, one of fixed text is written in its place. If standard error takes nothing, the message is answered all the same.
+/// the time that it took. If there is no memory for a line, one of fixed text is written in its place. If standard error takes nothing, the
+/// message is answered all the same.
 #[derive(Clone, Copy)]
 pub struct Logged<'a, A: Responder, E: Explains, R: Eprint + Clock> {
     /// The responder within.

@@ -121,3 +121,14 @@ fn refused_reason(part: &EncTicketPartInner, code: u32) -> Reason
         None => Reason::SessionKey,
     }
 }
+
+// The reason, if the code is KRB_AP_ERR_BAD_INTEGRITY.
+fn of_integrity(code: u32, reason: Reason) -> Option<Reason>
+    ensures { result ≡ of_integrity code reason }
+{
+    if code == KRB_AP_ERR_BAD_INTEGRITY {
+        Some(reason)
+    } else {
+        None
+    }
+}

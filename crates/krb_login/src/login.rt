@@ -64,7 +64,11 @@ fn granted_by_key(
     of_exchange(alloc, login, login.user.argument, granted)
 }
 
-fn log_in_certified(rt: &HostRuntime, login: &Login<'_>, own: &Certified) -> Result<(), Stop> {
+fn log_in_certified<'a>(
+    rt: &'a HostRuntime,
+    login: &'a Login<'a>,
+    own: &Certified,
+) -> Result<(), Stop> {
     let suites = login.wanted().suites();
     let user = login.user.argument;
     let mut kdc = KdcPipe::open(rt, &login.settings, user, Expected::Certificate(suites))?;

@@ -31,7 +31,7 @@ use Rattle.krb_logins.specs.Honest.{AreEnough, AreParties, IsHonestLogin, clock_
 use Rattle.krb_logins.specs.Parties.{LoginRecord, RealmRecord, RememberedRecord}
 use Rattle.krb_logins.proofs.GrantTaken.{session_key_sized, suite_of_key}
 use Rattle.krb_logins.proofs.Names.{are_texts, component_texts, own_name, realm_text, same_name, same_realm}
-use Rattle.krb_logins.proofs.Presenting.{choice_of, own_number, under_entry}
+use Rattle.krb_logins.proofs.PresentedRuns.{choice_of, own_number, under_entry}
 use Rattle.krb_logins.proofs.TicketTimes.{Reaches, has_begun, not_early, not_late, reaches_asked, reaches_end, reaches_first, reaches_lifetime}
 use Rattle.krb_logins.proofs.Times.{by_a_second, moment_told, near}
 

@@ -34,7 +34,7 @@ use Rattle.krb_logins.specs.Parties.{LoginRecord, RealmRecord, RememberedRecord}
 use Rattle.krb_logins.specs.Steps.{reply_bytes}
 use Rattle.krb_logins.proofs.Admissible.{acceptable, admissible, client_name, client_realm, for_part, pair, part_sealed, realm_name, service_name}
 use Rattle.krb_logins.proofs.Outcomes.{admits}
-use Rattle.krb_logins.proofs.Presenting.{choice_of, presents}
+use Rattle.krb_logins.proofs.PresentedRuns.{choice_of, presents}
 use Rattle.krb_logins.proofs.ReplyTaken.{wanted_taken}
 use Rattle.krb_logins.proofs.WholePresented.{whole_authenticator, whole_part}
 

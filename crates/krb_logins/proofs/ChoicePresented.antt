@@ -38,7 +38,7 @@ use Rattle.krb_client.specs.declared.refusal.TakeRefusal.{TakeRefusal}
 use Rattle.krb_client.specs.declared.refusal.TakeRefusal.TheVariants.{NotAsked, NotSealed, Unreadable}
 use Rattle.krb_logins.specs.Choices.{AsksService, IsOfReply, choice_by}
 use Rattle.krb_logins.proofs.Names.{are_texts, component_texts, realm_text}
-use Rattle.krb_logins.proofs.Presenting.{own_number}
+use Rattle.krb_logins.proofs.PresentedRuns.{own_number}
 use Rattle.krb_logins.proofs.WholePresented.{ticket_tree, whole_authenticator, whole_request}
 use Rattle.krb_logins.proofs.WholeRequests.{whole_text, whole_texts}
 

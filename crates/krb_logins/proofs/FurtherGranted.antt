@@ -73,7 +73,7 @@ use Rattle.krb_logins.proofs.Giving.{by_ask, by_need, by_refuse, past_found}
 use Rattle.krb_logins.proofs.GrantTaken.{session_key_sized, suite_of_key}
 use Rattle.krb_logins.proofs.Names.{are_texts, component_texts, granting_texts, own_name, own_realm, realm_text, same_name, same_realm}
 use Rattle.krb_logins.proofs.Passing.{past_ask, past_need, past_none, past_refuse, past_then}
-use Rattle.krb_logins.proofs.Presenting.{choice_of, written}
+use Rattle.krb_logins.proofs.PresentedRuns.{choice_of, written}
 use Rattle.krb_logins.proofs.Replying.{replies_at}
 use Rattle.krb_logins.proofs.TicketTimes.{has_begun, not_early, not_late, reaches_asked, reaches_first, reaches_lifetime}
 use Rattle.krb_logins.proofs.Times.{a_second, asked_below, by_a_second, least_of, lesser, moment_told, near}

@@ -14,7 +14,7 @@ mod ByPassword
 mod FurtherTaken
 mod TicketTimes
 pub mod WholePresented
-pub mod Presenting
+pub mod PresentedRuns
 pub mod ReplyTaken
 pub mod Outcomes
 mod Replying

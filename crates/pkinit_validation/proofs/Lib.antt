@@ -1,7 +1,7 @@
 mod AnchorLemmas
 mod TrustLemmas
 mod Told
-mod Judged
+mod JudgedReading
 mod JudgedParts
 mod SignerLemmas
 mod SignedLemmas

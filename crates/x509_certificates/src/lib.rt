@@ -10,7 +10,6 @@
 //! those of `Attribute` that identifier and one value (`IsMade`). A setter of `KeyUsage` changes that one use (`IsSet`), or nothing where
 //! it fails. `with_signed_part` also returns the signed bytes as they are in the input, and never a new encoding. A reader of `Certificate`
 //! returns the first extension of its kind. `with_attribute` and `add_attribute` append the attribute to those of a request.
-//!
 //! In PEM the first boundary of a label counts, and text outside boundaries is passed over. Between them white space may stand anywhere
 //! (RFC 7468, section 3: a lax parser). Without it they enclose the one base64 text of the DER. What is answered is in the file so. A
 //! refusal says what the file has in its place: no boundary, one that isn't ended, no base64, an encrypted key, a key for another

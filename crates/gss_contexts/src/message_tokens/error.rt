@@ -15,7 +15,7 @@ pub enum GssApiMessageError {
     /// The token's first two bytes: those that are expected, and those that are there.
     #[error("invalid token id: expected {0:?}, but got {1:?}")]
     InvalidId([u8; 2], [u8; 2]),
-    /// The mechanism's object identifier: the expected one, and the one that is there. No call of this crate returns it.
+    /// The mechanism's object identifier: the expected one, and the one that is there. No call of `message_tokens` returns it.
     #[error("invalid mechanism OID: expected {0}, but got {1}")]
     InvalidMechanismOid(String, String),
     /// The device failed, or the bytes end inside the token (`UnexpectedEof`).
@@ -27,7 +27,7 @@ pub enum GssApiMessageError {
     /// A wrap token's filler isn't FF: this byte is there.
     #[error("invalid wrap token filler: {0}")]
     InvalidWrapFiller(u8),
-    /// The token's content isn't DER. No call of this crate returns it.
+    /// The token's content isn't DER. No call of `message_tokens` returns it.
     #[error("ASN.1 error: {0}")]
     Asn1Error(Asn1DerError),
     /// Memory ran out.

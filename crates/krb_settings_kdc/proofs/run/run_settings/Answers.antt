@@ -6,7 +6,7 @@ use Rattle.krb_settings_kdc.proofs.run.run_settings.Goals as goal
 pub returns-in-Err : goal.returns-in-Err
 returns-in-Err g c =
     let old = devices (device (g.K.Source.left c.args.words_reader.now) (g.K.Source.failed c.args.words_reader.now)) (device (g.R.Source.left c.args.reader.now) (g.R.Source.failed c.args.reader.now)) (device (g.W.Sink.written c.args.writer.now) (g.W.Sink.failed c.args.writer.now)) in
-    rw c.stop.ensures
+    rw c.from.ensures
     (file_stopped ((c.args.words_reader.now ≡ c.args.words_reader.now) × (c.args.reader.now ≡ c.args.reader.now) × (c.args.writer.now ≡ c.args.writer.now))
     c.args.settings.now c.args.moment old old c.in-Err.fault (refl, refl, refl) c.in-Err.ensures)
 

@@ -4,7 +4,7 @@ use Rattle.cms_signed_data.specs.SignedContents.{IsSignedContent}
 use Rattle.cms_signed_data.specs.SignedLaws.{one_content, read_is}
 use Rattle.pkinit_validation.specs.Diagnoses.{content_fault}
 use Rattle.pkinit_validation.specs.declared.fault.PkAsReqFault.TheVariants as fault
-use Rattle.pkinit_validation.proofs.Judged.{none_read}
+use Rattle.pkinit_validation.proofs.JudgedReading.{none_read}
 use Rattle.pkinit_validation.proofs.Told.{if_asked}
 use Rattle.pkinit_validation.proofs.diagnosis.signed_fault.Goals as goal
 

@@ -6,7 +6,7 @@ use Rattle.pkinit_validation.specs.AuthPacks.{IsAuthPack, sole_auth_pack}
 use Rattle.krb_kdc_exchanges.specs.PkinitCalls.{agreed_as}
 use Rattle.pkinit_validation.specs.Judging.{judging_of}
 use Rattle.pkinit_validation.specs.PkinitTable.{is_auth_data, of_auth_pack}
-use Rattle.pkinit_validation.proofs.Judged.{judged_ask}
+use Rattle.pkinit_validation.proofs.JudgedReading.{judged_ask}
 use Rattle.pkinit_validation.proofs.table.judge_content.Goals as goal
 
 pub returns-then-not-is_auth_data : goal.returns-then-not-is_auth_data

@@ -6,7 +6,7 @@ use Rattle.pkinit_validation.specs.AuthPacks.{IsPaPkAsReq, sole_pa_pk_as_req}
 use Rattle.krb_kdc_exchanges.specs.PkinitCalls.{agreed_as}
 use Rattle.pkinit_validation.specs.Judging.{judging_of}
 use Rattle.pkinit_validation.specs.PkinitTable.{of_signed}
-use Rattle.pkinit_validation.proofs.Judged.{judged_ask}
+use Rattle.pkinit_validation.proofs.JudgedReading.{judged_ask}
 use Rattle.pkinit_validation.proofs.table.judge_request.Goals as goal
 
 pub returns : goal.returns

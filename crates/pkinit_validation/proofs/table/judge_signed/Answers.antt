@@ -6,7 +6,7 @@ use Rattle.krb_constants.specs.declared.error_codes.TheConstants.{KDC_ERR_PREAUT
 use Rattle.krb_kdc_exchanges.specs.PkinitCalls.{agreed_as}
 use Rattle.pkinit_validation.specs.Judging.{judging_of}
 use Rattle.pkinit_validation.specs.PkinitTable.{of_content}
-use Rattle.pkinit_validation.proofs.Judged.{judged_ask, none_read}
+use Rattle.pkinit_validation.proofs.JudgedReading.{judged_ask, none_read}
 use Rattle.pkinit_validation.proofs.table.judge_signed.Goals as goal
 
 pub returns-in-Ok : goal.returns-in-Ok
