@@ -11,6 +11,6 @@ set -e
 top=$(cd "$(dirname "$0")/.." && pwd)
 . "$top/bench/programs.sh"
 program KRB_KDCD krb_kdcd
-program KRB_ACCOUNTS krb_account_tool
+program KRB_ACCOUNTS krb_accounts
 program KRB_REALMD krb_realmd
 exec python3 -B "$top/bench/realm_file.py" "$@"

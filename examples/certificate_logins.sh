@@ -193,7 +193,7 @@ mit_rows() {
 
 start_realm_kdc() {
     program KRB_KDCD krb_kdcd
-    program KRB_ACCOUNTS krb_account_tool
+    program KRB_ACCOUNTS krb_accounts
     {
         openssl rand -hex 32 | "$KRB_ACCOUNTS" create "$work/accounts" EXAMPLE.COM
         openssl rand -hex 32 | "$KRB_ACCOUNTS" add -k "$work/accounts" user

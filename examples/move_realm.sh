@@ -22,7 +22,7 @@ need kvno krb5-user
 need openssl openssl
 [ "$missing" -eq 0 ] || exit 2
 program KRB_KDCD krb_kdcd
-program KRB_ACCOUNTS krb_account_tool
+program KRB_ACCOUNTS krb_accounts
 
 admin() {
     mit kadmin.local -q "$1"

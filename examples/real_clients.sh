@@ -284,7 +284,7 @@ for way in "$@"; do
         tcp | udp)
             . "$top/bench/programs.sh"
             program KRB_KDCD krb_kdcd
-            program KRB_ACCOUNTS krb_account_tool
+            program KRB_ACCOUNTS krb_accounts
             ;;
         *) echo "real_clients: $way: expected socat, tcp or udp" >&2 && exit 2 ;;
     esac

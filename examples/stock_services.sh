@@ -22,7 +22,7 @@ unset KRB5_CONFIG
 . "$top/examples/stock.sh"
 . "$top/bench/programs.sh"
 program KRB_KDCD krb_kdcd
-program KRB_ACCOUNTS krb_account_tool
+program KRB_ACCOUNTS krb_accounts
 need kinit krb5-user
 need openssl openssl
 

@@ -28,7 +28,7 @@ if ! curl --version 2>/dev/null | grep -q GSS-API; then
 fi
 [ "$missing" -eq 0 ] || exit 2
 program KRB_KDCD krb_kdcd
-program KRB_ACCOUNTS krb_account_tool
+program KRB_ACCOUNTS krb_accounts
 program KRB_LOGIN krb_login
 program KRB_KEYTAB krb_keytab
 

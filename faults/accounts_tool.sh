@@ -5,7 +5,7 @@
 # and is left out without it.
 set -e
 top=$(cd "$(dirname "$0")/.." && pwd)
-tool=${KRB_ACCOUNTS:-$top/crates/krb_account_tool/out/krb_account_tool}
+tool=${KRB_ACCOUNTS:-$top/crates/krb_accounts/out/krb_accounts}
 [ -x "$tool" ] || { echo "accounts_tool: $tool is missing: run make build PROGRAM=krb_accounts first" >&2; exit 2; }
 command -v strace >/dev/null || { echo "accounts_tool: strace is missing" >&2; exit 2; }
 work=$(mktemp -d)

@@ -8,7 +8,7 @@
 # KRB_LOGIN. Kills need strace. The attacks with a device and another user need root. What isn't tried is said.
 set -e
 top=$(cd "$(dirname "$0")/.." && pwd)
-KRB_ACCOUNTS=${KRB_ACCOUNTS:-$top/crates/krb_account_tool/out/krb_account_tool}
+KRB_ACCOUNTS=${KRB_ACCOUNTS:-$top/crates/krb_accounts/out/krb_accounts}
 KRB_KEYTAB=${KRB_KEYTAB:-$top/crates/krb_keytab/out/krb_keytab}
 KRB_LOGIN=${KRB_LOGIN:-$top/crates/krb_login/out/krb_login}
 for program in "$KRB_ACCOUNTS" "$KRB_KEYTAB" "$KRB_LOGIN"; do

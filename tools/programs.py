@@ -9,7 +9,7 @@ Program = collections.namedtuple("Program", "name crate section trial")
 PROGRAMS = {
     it.name: it
     for it in (
-        Program("krb_accounts", "krb_account_tool", 8, ["--version"]),
+        Program("krb_accounts", "krb_accounts", 8, ["--version"]),
         Program("krb_kdcd", "krb_kdcd", 8, ["--version"]),
         Program("krb_keytab", "krb_keytab", 1, ["--version"]),
         Program("krb_login", "krb_login", 1, ["--version"]),

@@ -304,7 +304,7 @@ class Run(Copy):
 
     def start(self):
         """Starts it, and returns the process and the port, once it listens."""
-        write(f"{self.top}/crates/krb_account_tool/out/krb_account_tool", '#!/bin/sh\ncp "$2" "$3"\n')
+        write(f"{self.top}/crates/krb_accounts/out/krb_accounts", '#!/bin/sh\ncp "$2" "$3"\n')
         write(f"{self.top}/crates/krb_kdcd/out/krb_kdcd", "#!/bin/sh\nexec cat\n")
         with socket.create_server(("127.0.0.1", 0)) as it:
             port = it.getsockname()[1]

@@ -4,3 +4,4 @@ mod Fronts
 mod Sound
 mod Holding
 mod Answering
+mod Headers

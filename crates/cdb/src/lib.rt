@@ -9,7 +9,8 @@
 //! `find` and `look_up` return what the file's octets have under a key, or a fault by its name. A position past the file's end is
 //! `Damaged`. `answers_as` returns true only if a look-up of each key, whichever it is, finds what the given records say, and
 //! `has_no_other` only if each finds one of the given keys or none. `write` returns only files that answer as their records do. No
-//! look-up and no check takes memory. The promises are of files whose octets stay as they are while they are open.
+//! look-up and no check takes memory. What a [`Headed`] file reads, also in the header that it has read before, is what the file within has
+//! there. The promises are of files whose octets stay as they are while they are open.
 #![tactic(auto)]
 
 mod check;
@@ -17,6 +18,7 @@ mod fault;
 mod file;
 mod format;
 mod hash;
+mod headed;
 mod records;
 mod tables;
 mod writing;
@@ -26,6 +28,7 @@ pub use fault::Fault;
 pub use file::{FileAt, ReadAt};
 pub use format::{HASH_START, HEADER_SIZE, KEY_LIMIT, PAIR_SIZE, TABLES};
 pub use hash::hash_of;
+pub use headed::Headed;
 pub use records::{Record, Sorted, answers_as};
 pub use tables::{Found, find, look_up};
 pub use writing::{WriteFault, write};

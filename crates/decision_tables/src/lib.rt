@@ -1,4 +1,4 @@
-//! Decision tables (`specs/Tables`), and two results as one.
+//! Decision tables (`specs/Tables`).
 //!
 //! A table is a relation with one outcome at most, of which the first case that holds counts. Contracts of the crates above say that a
 //! call answers by a table. Code follows its rows by results: the first error is the outcome.
@@ -8,28 +8,11 @@
 //! that makes a big value keeps the outcome of what it does with it, lets the value go by `drop`, and answers the outcome.
 //!
 //! A `Table` has one outcome at most, and proves it: the first row that holds decides. By the lemmas of proofs/Outcomes it can't be that a
-//! table has no outcome where its parts have one. [`both`] answers both values, or the first error of the two. [`if_passed`] answers its
-//! value where the check passed, and else the check's error. Neither call can run out of memory.
+//! table has no outcome where its parts have one. [`if_passed`] answers its
+//! value where the check passed, and else the check's error. It can't run out of memory.
 #![tactic(auto)]
 
-ghost use Rattle.std.specs.Prelude.{◌≡◌, Err, IfOk, Ok};
-
-/// Both values, or the first error.
-///
-/// Nested, it makes the parts of a record with one way out.
-pub fn both<A: Drop, B: Drop, E: Drop>(
-    first: Result<A, E>,
-    second: Result<B, E>,
-) -> Result<(A, B), E>
-    ensures values { IfOk result (λ pair. (first ≡ Ok pair.0) × (second ≡ Ok pair.1)) }
-    ensures first_error { (error : E) → first ≡ Err error → result ≡ Err error }
-    ensures second_error { (value : A) (error : E) → first ≡ Ok value → second ≡ Err error → result ≡ Err error }
-{
-    match (first, second) {
-        (Ok(first), Ok(second)) => Ok((first, second)),
-        (Err(error), _) | (Ok(_), Err(error)) => Err(error),
-    }
-}
+ghost use Rattle.std.specs.Prelude.{◌≡◌, Err, Ok};
 
 /// The value where its check passed, else the check's error.
 pub fn if_passed<T: Drop, E: Drop>(value: T, check: Result<(), E>) -> Result<T, E>

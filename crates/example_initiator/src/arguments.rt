@@ -1,11 +1,11 @@
 //! The arguments of a login at a service.
 
 use crate::service_name::{ServiceName, service_name_of};
-use decision_tables::both;
 use gss_contexts::Protection;
 use gss_initiator::{NO_BINDINGS, TokenForm, bindings_of};
 use krb_commands::{Given, Stop, given_of, usage};
 use krb_time::Moment;
+use picky_asn1_der::both;
 use std::alloc::Global;
 
 /// The options.

@@ -1,7 +1,6 @@
 //! The client of a credential cache, with its credential for the service.
 
 use crate::arguments::Asked;
-use decision_tables::both;
 use krb_client::{AskRefusal, Client, Credential, TicketTimes};
 use krb_commands::{FileKind, Stop, octets_of, refused};
 use krb_crypto::{CipherSuite, Key};
@@ -12,7 +11,7 @@ use krb_messages::data_types::{KerberosFlags, PrincipalName, Ticket};
 use krb_time::after_epoch;
 use picky_asn1::date::GeneralizedTime;
 use picky_asn1::wrapper::GeneralStringAsn1;
-use picky_asn1_der::read_whole;
+use picky_asn1_der::{both, read_whole};
 use std::alloc::{AllocError, Global};
 
 /// A client, with its credential for a service.

@@ -1,9 +1,9 @@
 //! The name of a service.
 
-use krb_accounts::{RealmRefusal, components_of, realm_name_of};
 use krb_commands::{Stop, principal_in, usage};
 use krb_file_formats::CachePrincipal;
 use krb_messages::{PrincipalText, is_same_name, is_same_realm};
+use krb_realm_accounts::{RealmRefusal, components_of, realm_name_of};
 use picky_asn1::wrapper::GeneralStringAsn1;
 use std::alloc::Global;
 

@@ -1,8 +1,9 @@
 //! A login by certificate, with a key of RSA on each side.
 
 use crate::{HOST, Keys, REALM, SUITE, USER, random_bytes, use_ticket};
-use decision_tables::{both, if_passed};
+use decision_tables::if_passed;
 use krb_realm::{Anchor, Client, Realm, Settings, components_of_text};
+use picky_asn1_der::both;
 use public_key_cryptography::Group;
 use rsa_keys::{OwnKey, RsaKeys};
 use std::alloc::Global;

@@ -4,7 +4,7 @@
 //! it sends, and what it makes of the replies, is `cached_login`.
 #![tactic(auto)]
 
-ghost use Rattle.krb_accounts.specs.Names.{parts};
+ghost use Rattle.krb_realm_accounts.specs.Names.{parts};
 ghost use Rattle.krb_client_exchanges.specs.Courses.{Runs};
 ghost use Rattle.example_tickets.specs.CachedLogins.{cached_login};
 

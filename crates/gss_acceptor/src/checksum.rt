@@ -7,7 +7,7 @@ use crate::refusal::AcceptRefusal;
 use byte_streams::{array_at, u32_le};
 use krb_constants::cksum_types::GSS_API;
 use krb_messages::data_types::Checksum;
-use picky_asn1::is_number;
+use krb_messages::is_number;
 
 /// The length of the hash of the channel bindings: 16 octets (RFC 4121, section 4.1.1).
 pub const BINDINGS: u32 = 16;

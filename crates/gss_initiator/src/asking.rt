@@ -9,7 +9,6 @@ use crate::checksum::is_beyond;
 use crate::initiated::{Initiated, Pending, Progress, TokenForm};
 use crate::refusal::InitiateRefusal;
 use crate::request::context_request;
-use decision_tables::both;
 use gss_acceptor::context_flags::{MUTUAL, SEQUENCE};
 use gss_acceptor::{AP_REQ_FRONT, ContextFlags, InitialChecksum, element_of, joined};
 use gss_contexts::{ApplicationTag0, GssApiNegInit, MechTypeList, NegTokenInit};
@@ -20,7 +19,7 @@ use krb_messages::random_bytes::SUBKEY_SEED;
 use krb_tickets::key_at;
 use krb_time::Moment;
 use picky_asn1::wrapper::{ObjectIdentifierAsn1, OctetStringAsn1};
-use picky_asn1_der::{ExplicitContextTag, Optional, encoding_of};
+use picky_asn1_der::{ExplicitContextTag, Optional, both, encoding_of};
 use std::alloc::{AllocError, Global};
 
 /// Asks the credential's service for a context, at a moment: makes the first token (RFC 4121, section 4.1). `initial` has the hash of the

@@ -4,7 +4,6 @@ ghost use Rattle.krb_tickets.specs.Sealing.{encryption_key};
 ghost use Rattle.gss_initiator.specs.Requests.{AsksContext, IsContextAuthenticator, context_parts, own_subkey};
 
 use crate::checksum::initial_checksum;
-use decision_tables::both;
 use gss_acceptor::InitialChecksum;
 use gss_acceptor::context_flags::MUTUAL;
 use krb_client::{Client, Credential, ap_request_with, nonce_of};
@@ -15,7 +14,7 @@ use krb_messages::random_bytes::{AUTHENTICATOR_CONFOUNDER, SUBKEY_SEED};
 use krb_tickets::{confounder_at, encryption_key, key_at};
 use krb_time::Moment;
 use picky_asn1::wrapper::IntegerAsn1;
-use picky_asn1_der::{ExplicitContextTag, Optional};
+use picky_asn1_der::{ExplicitContextTag, Optional, both};
 use std::alloc::{AllocError, Global};
 
 // What the authenticator of a context has beside the client's: the checksum, the subkey and the first sequence number.

@@ -13,10 +13,10 @@ use Rattle.picky_asn1.specs.Bytes.{Bytes}
 use Rattle.krb_messages.specs.NameText.{name_text}
 use Rattle.krb_messages.specs.NameReading.{are_ascii, components_in, is_ascii}
 use Rattle.krb_messages.proofs.PrintedNames.{name-read}
-use Rattle.krb_accounts.specs.Account.{AccountRecord}
-use Rattle.krb_accounts.specs.Names.{AreComponents, is_realm_name}
-use Rattle.krb_accounts.specs.Settings.{SettingsRecord}
-use Rattle.krb_accounts.specs.declared.policy.TheConstants.{NO_POLICY}
+use Rattle.krb_realm_accounts.specs.Account.{AccountRecord}
+use Rattle.krb_realm_accounts.specs.Names.{AreComponents, is_realm_name}
+use Rattle.krb_realm_accounts.specs.Settings.{SettingsRecord}
+use Rattle.krb_realm_accounts.specs.declared.policy.TheConstants.{NO_POLICY}
 use Rattle.krb_crypto.specs.Suites.{cipher_key_size}
 use Rattle.krb_crypto.specs.declared.suite.CipherSuite.{CipherSuite}
 use Rattle.krb_crypto.specs.declared.suite.CipherSuite.TheVariants.{Aes128CtsHmacSha196, Aes256CtsHmacSha196, Des3CbcSha1Kd, Aes128CtsHmacSha256128, Aes256CtsHmacSha384192}
@@ -234,7 +234,7 @@ further_fields true None = codes "limits-des3" ∷ codes "-" ∷ []
 further_fields false (Some octets) = codes "pkinit" ∷ encode_lower octets ∷ []
 further_fields true (Some octets) = codes "limits-des3,pkinit" ∷ encode_lower octets ∷ []
 
--- two plain fields behind a plain one
+-- two plain fields after a plain one
 two-parts : (first words last : List ℕ) → is_all_plain first ≡ true → is_all_plain words ≡ true → is_all_plain last ≡ true
     → fields (first ++ 9 ∷ (words ++ 9 ∷ last)) ≡ first ∷ words ∷ last ∷ []
 two-parts first words last plain_first plain_words plain_last =

@@ -7,8 +7,8 @@ use Rattle.hex.proofs.HexLemmas.{decode_of-ok}
 use Rattle.picky_asn1.specs.Bytes.{Bytes}
 use Rattle.krb_messages.specs.NameReading.{components_in, is_ascii}
 use Rattle.krb_messages.specs.declared.name_reading.NameTextFault.{NameTextFault}
-use Rattle.krb_accounts.specs.Account.{AccountRecord}
-use Rattle.krb_accounts.specs.Names.{AreComponents, are_components}
+use Rattle.krb_realm_accounts.specs.Account.{AccountRecord}
+use Rattle.krb_realm_accounts.specs.Names.{AreComponents, are_components}
 use Rattle.krb_crypto.specs.Suites.{cipher_key_size}
 use Rattle.krb_crypto.specs.declared.suite.CipherSuite.{CipherSuite}
 use Rattle.krb_account_texts.specs.Lines.{WrittenLine, account}

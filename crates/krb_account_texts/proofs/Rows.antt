@@ -1,4 +1,4 @@
--- Rows of a pattern: for each end of a text, whether the pattern from some place on stands for it.
+-- Rows of a pattern: for each end of a text, whether the pattern from some place on matches it.
 use Rattle.std.proofs.Common.{◌≡◌, inl, inr, ℕ, zero, suc, ◌+◌, ◌<◌, ◌≤◌, ◌==◌, ◌&&◌, ◌||◌, Bool, true, false, cond, List, [], ◌∷◌, ◌++◌, length, get_or, set, drop, replicate, refl, ap, sym, subst, ◌∙◌, arith, length-append, length-set}
 use Rattle.std.proofs.lemmas.List.{drop_all, drop_more, get_or-set_other, get_or-set_same, length-replicate}
 use Rattle.std.proofs.lemmas.Bool.Decides.{eqb_tells}
@@ -17,7 +17,7 @@ last-row text row is = record {
   known = λ k inside. ap (λ (r : List Bool). get_or r k false) is ∙ known-last text k inside;
 }
 
--- the ends from the i-th on are of the pattern from a mark on, and those before it of the pattern behind the mark, as the i-th was
+-- the ends from the i-th on are of the pattern from a mark on, and those before it of the pattern after the mark, as the i-th was
 pub record IsPut (mark : ℕ) (rest text : List ℕ) (row : List Bool) (i : ℕ) (behind : Bool) : Type 0 where
   pub size : length row ≡ length text + 1
   pub below : (k : ℕ) → k < i → get_or row k false ≡ matches rest (drop k text)

@@ -4,7 +4,7 @@ use Rattle.std.specs.List.{position_from}
 use Rattle.picky_asn1.specs.Bytes.{Bytes}
 use Rattle.krb_messages.specs.Names.{is_same_name}
 use Rattle.krb_messages.specs.TicketGranting.{krbtgt_of}
-use Rattle.krb_accounts.specs.Account.{AccountRecord}
+use Rattle.krb_realm_accounts.specs.Account.{AccountRecord}
 use Rattle.krb_crypto.specs.declared.suite.CipherSuite.{CipherSuite}
 use Rattle.krb_account_texts.specs.Order.{realm_among}
 use Rattle.krb_account_texts.specs.declared.edits.EditRefusal.{EditRefusal}

@@ -6,8 +6,8 @@ use Rattle.std.specs.Fmt.{decimal}
 use Rattle.hex.specs.Hex.{encode_lower}
 use Rattle.picky_asn1.specs.Bytes.{Bytes}
 use Rattle.krb_messages.specs.NameText.{name_text}
-use Rattle.krb_accounts.specs.Account.{AccountRecord}
-use Rattle.krb_accounts.specs.Settings.{SettingsRecord}
+use Rattle.krb_realm_accounts.specs.Account.{AccountRecord}
+use Rattle.krb_realm_accounts.specs.Settings.{SettingsRecord}
 use Rattle.krb_settings.specs.Fields.{suite_name}
 use Rattle.krb_account_texts.specs.declared.line.Line.{Line}
 use Rattle.krb_account_texts.specs.declared.line.Line.TheVariants as line

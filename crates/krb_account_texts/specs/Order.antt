@@ -4,7 +4,7 @@ use Rattle.std.specs.List.{position_from}
 use Rattle.std.specs.Option.{unwrap_or}
 use Rattle.std.specs.Ordering.{is_lt}
 use Rattle.picky_asn1.specs.Bytes.{Bytes}
-use Rattle.krb_accounts.specs.Accounts.{name_cmp}
+use Rattle.krb_realm_accounts.specs.Accounts.{name_cmp}
 use Rattle.krb_account_texts.specs.Steps.{◌>>=◌}
 use Rattle.krb_account_texts.specs.declared.fault.LineFault.{LineFault}
 use Rattle.krb_account_texts.specs.declared.fault.LineFault.TheVariants as fault

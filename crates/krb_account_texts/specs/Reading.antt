@@ -6,11 +6,11 @@ use Rattle.hex.specs.Hex.{decode_of}
 use Rattle.picky_asn1.specs.Bytes.{Bytes}
 use Rattle.krb_messages.specs.NameReading.{components_in, is_ascii}
 use Rattle.krb_messages.specs.declared.name_reading.NameTextFault.{NameTextFault}
-use Rattle.krb_accounts.specs.Names.{are_components, is_realm_name}
-use Rattle.krb_accounts.specs.Settings.{SettingsRecord}
-use Rattle.krb_accounts.specs.declared.policy.Policy.{Policy}
-use Rattle.krb_accounts.specs.declared.policy.TheConstants.{NO_POLICY}
-use Rattle.krb_accounts.specs.declared.settings.TheConstants.{LIFETIME_LIMIT, SKEW_LIMIT}
+use Rattle.krb_realm_accounts.specs.Names.{are_components, is_realm_name}
+use Rattle.krb_realm_accounts.specs.Settings.{SettingsRecord}
+use Rattle.krb_realm_accounts.specs.declared.policy.Policy.{Policy}
+use Rattle.krb_realm_accounts.specs.declared.policy.TheConstants.{NO_POLICY}
+use Rattle.krb_realm_accounts.specs.declared.settings.TheConstants.{LIFETIME_LIMIT, SKEW_LIMIT}
 use Rattle.krb_crypto.specs.declared.suite.CipherSuite.{CipherSuite}
 use Rattle.krb_crypto.specs.Suites.{cipher_key_size, cipher_suites}
 use Rattle.krb_settings.specs.Fields.{suite_name}

@@ -2,7 +2,7 @@
 use Rattle.std.specs.Prelude.{◌≡◌, ◌&&◌, ◌==◌, ℕ, Bool, true, false, nat_lt, not, List, codes, refl}
 use Rattle.std.specs.List.{list_all, list_any}
 use Rattle.picky_asn1.specs.Bytes.{Bytes}
-use Rattle.krb_accounts.specs.Names.{is_realm_name}
+use Rattle.krb_realm_accounts.specs.Names.{is_realm_name}
 
 -- the characters that a name has a use of its own for (RFC 1964, section 2.1.1), or krb5.conf
 abbrev pub reserved : List ℕ

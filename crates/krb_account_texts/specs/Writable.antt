@@ -4,9 +4,9 @@ use Rattle.std.specs.List.{AllByRecursion, list_all}
 use Rattle.hex.specs.Hex.{IsBytes}
 use Rattle.picky_asn1.specs.Bytes.{Bytes}
 use Rattle.krb_crypto.specs.Suites.{cipher_key_size}
-use Rattle.krb_accounts.specs.Account.{AccountRecord}
-use Rattle.krb_accounts.specs.Names.{AreComponents, IsRealmName}
-use Rattle.krb_accounts.specs.Settings.{AreSettings, SettingsRecord}
+use Rattle.krb_realm_accounts.specs.Account.{AccountRecord}
+use Rattle.krb_realm_accounts.specs.Names.{AreComponents, IsRealmName}
+use Rattle.krb_realm_accounts.specs.Settings.{AreSettings, SettingsRecord}
 use Rattle.krb_messages.specs.NameReading.{is_ascii}
 use Rattle.krb_account_texts.specs.Lines.{WrittenLine, comment, realm, account}
 use Rattle.krb_account_texts.specs.Reading.{is_disabled, is_printed}

@@ -7,9 +7,9 @@ ghost use Rattle.krb_account_texts.specs.Order.{place_for};
 
 use crate::line::{AccountLine, Line, RealmLine};
 use crate::order::{place_for, realm_among};
-use krb_accounts::Account;
 use krb_crypto::Key;
 use krb_messages::{is_same_name, krbtgt};
+use krb_realm_accounts::Account;
 use picky_asn1::wrapper::{GeneralStringAsn1, OctetStringAsn1};
 use std::alloc::{AllocError, AllocFailed};
 use thiserror::Error;

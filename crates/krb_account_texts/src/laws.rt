@@ -1,7 +1,7 @@
 //! What holds of every text of accounts. Each is a function that does nothing when it runs: its contract is the law.
 ghost use Rattle.std.specs.Prelude.{◌≡◌, ℕ, Bool, List, Ok};
 ghost use Rattle.picky_asn1.specs.Bytes.{Bytes};
-ghost use Rattle.krb_accounts.specs.Account.{AccountRecord};
+ghost use Rattle.krb_realm_accounts.specs.Account.{AccountRecord};
 ghost use Rattle.krb_account_texts.specs.Lines.{WrittenLine, account, text_of};
 ghost use Rattle.krb_account_texts.specs.Reading.{account_in, lines_in};
 ghost use Rattle.krb_account_texts.specs.Writable.{AreWritable, IsAccount};

@@ -18,7 +18,7 @@
 //! is written is read as the same lines (law `written_is_read`). [`add`], [`change_key`], [`remove`], [`disable`] and [`enable`] change the
 //! line of one account and no other. They refuse a name that is there, a name that is not there, and a kvno that none follows. The account of
 //! the realm's ticket-granting service is neither removed nor disabled. [`certify`] changes the line of the realm and no other. A [`Pattern`]
-//! stands for the names that `matches` says, and [`can_be_typed`] says which realms' names a client's user can type.
+//! matches the names that `matches` says, and [`can_be_typed`] says which realms' names a client's user can type.
 #![tactic(auto)]
 
 mod edits;

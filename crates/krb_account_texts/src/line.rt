@@ -1,9 +1,9 @@
 //! Lines of a text of accounts.
 ghost use Rattle.std.specs.Prelude.{◌≡◌, IfOk, pos};
 
-use krb_accounts::{Account, Settings};
 use krb_constants::types::NT_PRINCIPAL;
 use krb_messages::data_types::PrincipalName;
+use krb_realm_accounts::{Account, Settings};
 use picky_asn1::wrapper::{Asn1SequenceOf, GeneralStringAsn1, IntegerAsn1, OctetStringAsn1};
 use picky_asn1_der::ExplicitContextTag;
 use std::alloc::{AllocError, Global};

@@ -2,7 +2,7 @@
 ghost use Rattle.std.specs.Prelude.{◌≡◌, ◌≤◌, ◌<◌, [], false, length, IfSome};
 ghost use Rattle.std.specs.List.{position_from};
 ghost use Rattle.std.specs.Option.{option_map};
-ghost use Rattle.krb_accounts.specs.Accounts.{name_cmp};
+ghost use Rattle.krb_realm_accounts.specs.Accounts.{name_cmp};
 ghost use Rattle.krb_account_texts.specs.Order.{in_order, is_after, is_before, judged_next, place_for, realm_among};
 
 use crate::fault::{LineFault, TextFault};

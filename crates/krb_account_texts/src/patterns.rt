@@ -4,7 +4,7 @@ ghost use Rattle.krb_account_texts.specs.Patterns.{IsRow, matches, stands_for};
 
 use std::alloc::{AllocError, Global};
 
-/// A pattern of names: `*` stands for any characters, `/` too, `?` for one, and each other character for itself.
+/// A pattern of names: `*` matches any characters, `/` too, `?` one, and each other character itself.
 #[derive(Clone, Copy)]
 pub struct Pattern<'a> {
     /// The pattern as it is written.
@@ -12,7 +12,7 @@ pub struct Pattern<'a> {
 }
 
 impl<'a> Pattern<'a> {
-    /// Whether the pattern stands for a name. It takes time by the product of both lengths at most.
+    /// Whether the pattern matches a name. It takes time by the product of both lengths at most.
     pub fn matches(self, alloc: Global, name: &[u8]) -> Result<bool, AllocError>
         ensures { IfOk result (λ found. found ≡ matches self.entry.marks.now name.now) }
     {
@@ -25,7 +25,7 @@ impl<'a> Pattern<'a> {
     }
 }
 
-// Whether the empty pattern stands for each end of a name: for the empty one alone.
+// Whether the empty pattern matches each end of a name: for the empty one alone.
 fn last_row(alloc: Global, name: &[u8]) -> Result<Vec<bool>, AllocError>
     ensures { IfOk result (λ row. IsRow [] name.now row.items) }
 {
@@ -34,7 +34,7 @@ fn last_row(alloc: Global, name: &[u8]) -> Result<Vec<bool>, AllocError>
     Ok(row)
 }
 
-// Whether the pattern from this place on stands for each end of a name, where it is known of the pattern behind this place.
+// Whether the pattern from this place on matches each end of a name, where it is known of the pattern after this place.
 fn put_mark(marks: &[u8], place: usize, name: &[u8], row: &mut Vec<bool>)
     requires inside { place < length marks.now }
     requires known { IsRow (drop (place + 1) marks.now) name.now row.old.items }
@@ -55,15 +55,15 @@ fn put_mark(marks: &[u8], place: usize, name: &[u8], row: &mut Vec<bool>)
 // What is known at one place of a name, of the end from there on and of the next end, which is shorter by one character.
 #[derive(Clone, Copy)]
 struct Ends {
-    // Whether the pattern behind a mark stands for the end.
+    // Whether the pattern after a mark matches the end.
     here: bool,
-    // Whether the pattern from the mark on stands for the next end.
+    // Whether the pattern from the mark on matches the next end.
     next: bool,
-    // Whether the pattern behind the mark stands for the next end.
+    // Whether the pattern after the mark matches the next end.
     behind: bool,
 }
 
-// Whether the pattern from a mark on stands for the end that begins with this character.
+// Whether the pattern from a mark on matches the end that begins with this character.
 fn fits(mark: u8, character: u8, ends: Ends) -> bool
     ensures { result ≡ (if mark == 42 then ends.here || ends.next else stands_for mark character && ends.behind) }
 {
@@ -74,14 +74,14 @@ fn fits(mark: u8, character: u8, ends: Ends) -> bool
     }
 }
 
-// Whether the pattern from a mark on stands for the empty end, where the pattern behind the mark stands for it or doesn't.
+// Whether the pattern from a mark on matches the empty end, where the pattern after the mark matches it or doesn't.
 fn fits_end(mark: u8, behind: bool) -> bool
     ensures { result ≡ ((mark == 42) && behind) }
 {
     mark == b'*' && behind
 }
 
-// Whether a mark that isn't `*` stands for a character.
+// Whether a mark that isn't `*` matches a character.
 fn stands_for(mark: u8, character: u8) -> bool
     ensures { result ≡ stands_for mark character }
 {

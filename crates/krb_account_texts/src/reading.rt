@@ -13,8 +13,8 @@ use crate::fields::{
     suite_of,
 };
 use crate::line::{AccountLine, Line, RealmLine, principal_name};
-use krb_accounts::{Account, NO_POLICY, Policy};
 use krb_messages::data_types::PrincipalName;
+use krb_realm_accounts::{Account, NO_POLICY, Policy};
 use std::alloc::{AllocError, Global};
 
 /// The lines that a text writes. It is refused with the number of the first line that is none, and with what was expected there.
@@ -97,7 +97,7 @@ pub fn read_line(alloc: Global, text: &str) -> Result<Line, LineFault>
     line_of(alloc, &fields)
 }
 
-// The fields behind the mark of a disabled account, if the text begins with it.
+// The fields after the mark of a disabled account, if the text begins with it.
 fn disabled_fields(text: &str) -> Option<&str>
     ensures { MatchOption result (is_disabled text.now ≡ false) (λ fields. (is_disabled text.now ≡ true) × (fields.now ≡ drop (length disabled_mark) text.now)) }
 {

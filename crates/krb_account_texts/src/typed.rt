@@ -3,7 +3,7 @@ ghost use Rattle.std.specs.Prelude.{◌≡◌};
 ghost use Rattle.std.specs.List.{list_all};
 ghost use Rattle.krb_account_texts.specs.Typed.{can_be_typed, is_typed};
 
-use krb_accounts::is_realm_name;
+use krb_realm_accounts::is_realm_name;
 
 /// The characters that a name has a use of its own for (RFC 1964, section 2.1.1), or krb5.conf.
 const RESERVED: &[u8] = b"\"#*/;=@[\\]{}";

@@ -1,3 +1,1 @@
-mod Blocks
-mod Parts
-pub mod Packing
+pub mod Seeds

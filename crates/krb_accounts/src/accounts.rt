@@ -1,292 +1,337 @@
-//! The accounts of a realm.
-ghost use Rattle.std.specs.Prelude.{◌≡◌, ◌↔◌, ◌⊎◌, [], IsSome, IsTrue, Some, Ok, Err, OnOk, OnErr, IfErr};
-ghost use Rattle.std.specs.Option.{option_copied};
-ghost use Rattle.std.specs.FinMap as finite;
-ghost use Rattle.krb_accounts.specs.Names.{parts};
+//! The commands that change accounts in a text.
 
-use crate::account::{Account, key_of};
-use crate::packed::{BLOCK_ROOM, pack_within};
-use crate::refusal::RealmRefusal;
-use arrayvec::ArrayVec;
+use crate::arguments::{expected, name_of, options_of};
+use crate::secrets::{KeyInput, SaltedKey, input_of, key_of_password, key_without_password};
+use crate::texts::{account_among, finish_text, lines_of, realm_of};
+use crate::warnings::{RealmKey, Stream, is_service, warn_of_account, warn_of_realm};
+use krb_account_texts::{
+    AccountLine, EditRefusal, Line, RealmLine, add, can_be_typed, change_key, disable, enable,
+    place_of, principal_name, realm_among, remove,
+};
+use krb_commands::{FileKind, Stop, begin, begin_first, refused};
 use krb_crypto::{CipherSuite, Key};
+use krb_messages::data_types::PrincipalName;
+use krb_messages::krbtgt_of;
+use krb_realm_accounts::{Account, Policy, Settings, USUAL_LIFETIME, USUAL_SKEW, realm_name_of};
+use krb_settings::Secret;
 use picky_asn1::wrapper::GeneralStringAsn1;
-use std::alloc::Global;
-use std::collections::BTreeMap;
-use std::collections::btree_map::Entry;
-use std::marker::Model;
+use std::alloc::{AllocError, Global};
 
-/// How many octets a block has that is made first: enough for most names. A call clears a room of so many.
-const SHORT_ROOM: usize = 256;
+/// The suite of a key for which none is given.
+const SUITE: CipherSuite = CipherSuite::Aes256CtsHmacSha196;
 
-/// The accounts of a realm: at most one for each name. Names are the same where they have the same
-/// components with the same characters, in the same case. A contract sees a finite map from the
-/// components to the account.
-///
-/// Commands and look-ups take steps by the logarithm of the number of accounts.
-#[derive(Drop)]
-pub struct Accounts {
-    // The accounts by the blocks of their names. Blocks have the order of the names.
-    entries: BTreeMap<Vec<u8>, Account>,
+/// The policy of a new realm.
+const NEW_POLICY: Policy = Policy { limits_des3: true };
+
+/// `create [-e SUITE] [-k [random]] TEXT REALM`: makes a text of a realm, with the key of its ticket-granting service.
+pub(crate) fn create(rt: &HostRuntime, arguments: &[String]) -> Result<(), Stop> {
+    let alloc = rt.alloc();
+    let (options, arguments) = options_of(alloc, arguments)?;
+    let [path, realm] = arguments else {
+        return Err(expected(alloc, "create [-e SUITE] [-k [random]] TEXT REALM"));
+    };
+    let own = realm_line(alloc, realm.as_str())?;
+    let input = input_of(rt, options.source)?;
+    let new_file = begin_first(rt, path.as_str(), &[])?;
+    let lines = created(rt, own, options.suite.unwrap_or(SUITE), &input);
+    finish_text(rt, new_file, lines)
 }
 
-impl Model for Accounts {
-    ghost use Rattle.std.specs.Prelude.{ℕ};
-    ghost use Rattle.std.specs.Coded.{coded_list, coded_ℕ};
-    ghost use Rattle.std.specs.FinMap as finite;
-    ghost use Rattle.std.specs.BTreeMap.{keys};
-    ghost use Rattle.krb_accounts.specs.Accounts.{AccountMap};
-    ghost use Rattle.krb_accounts.specs.Entries.{AreBlocks, named};
-    ghost use Rattle.krb_accounts.specs.contracts.account.Account as account;
-
-    ghost Value = { AccountMap };
-
-    ghost coded = { finite.code (coded_list (coded_list coded_ℕ)) account.the_row.coded };
-
-    ghost view = { λ a. finite.from_entries (named a.entries.entries) };
-
-    ghost invariant = { λ a. AreBlocks (keys a.entries) };
+fn created(
+    rt: &HostRuntime,
+    own: RealmLine,
+    suite: CipherSuite,
+    input: &KeyInput,
+) -> Result<Vec<Line>, Stop> {
+    let account = service_line(rt, &own.name, suite, input)?;
+    let lines = two_lines(rt.alloc(), own, account)?;
+    warn_of_created(rt, &lines)?;
+    Ok(lines)
 }
 
-impl Accounts {
-    ghost use Rattle.krb_accounts.specs.Account.{AccountRecord};
-    ghost use Rattle.krb_accounts.specs.Accounts.{changing, inserting, removing};
-    ghost use Rattle.krb_accounts.specs.Refusal.{IsMemoryAside};
-    ghost use Rattle.krb_accounts.specs.declared.refusal.RealmRefusal.{RealmRefusal};
-
-    /// No accounts.
-    pub fn new(alloc: Global) -> Accounts
-        ensures { result ≡ finite.empty }
-    {
-        Accounts {
-            entries: BTreeMap::new(alloc),
-        }
-    }
-
-    /// The account of a name. It takes no memory.
-    pub fn get(&self, name: &[GeneralStringAsn1]) -> Option<&Account>
-        ensures { option_copied result ≡ finite.get self.now name.now }
-    {
-        let entries = &self.entries;
-        let mut block = ArrayVec::<u8, SHORT_ROOM>::new();
-        if !pack_name(&mut block, name) {
-            return self.get_long(name);
-        }
-        entries.get(block.as_slice())
-    }
-
-    // The account of a name of any length. It stands apart, so that only calls with a long name clear `BLOCK_ROOM` octets.
-    #[inline(never)]
-    fn get_long(&self, name: &[GeneralStringAsn1]) -> Option<&Account>
-        ensures { option_copied result ≡ finite.get self.now name.now }
-    {
-        let held = &self.entries;
-        let mut block = ArrayVec::<u8, BLOCK_ROOM>::new();
-        if !pack_name(&mut block, name) {
-            return None;
-        }
-        held.get(block.as_slice())
-    }
-
-    /// Whether a name has an account, by the characters of its components. It takes no memory.
-    pub fn contains(&self, name: &[Vec<u8>]) -> bool
-        ensures { result ≡ finite.contains_key self.now (parts name.now) }
-    {
-        let entries = &self.entries;
-        let mut block = ArrayVec::<u8, BLOCK_ROOM>::new();
-        if !pack_parts(&mut block, name) {
-            return false;
-        }
-        entries.contains_key(block.as_slice())
-    }
-
-    /// Gives a name its account. A name that has one is refused.
-    ///
-    /// A name whose block is longer than `BLOCK_ROOM`, as no principal's of a realm is, finds no room: `Memory`.
-    pub fn insert_new(
-        &mut self,
-        name: Vec<GeneralStringAsn1>,
-        account: Account,
-    ) -> Result<(), RealmRefusal>
-        ensures exists { (result ≡ Err RealmRefusal.Exists) ↔ IsSome (finite.get self.old name.items) }
-        ensures refusal { IsMemoryAside result (inserting self.old name.items) }
-        ensures ok { OnOk result (self.new ≡ finite.insert self.old name.items account) }
-        ensures err { OnErr result (self.new ≡ self.old) }
-    {
-        let entries = &mut self.entries;
-        let mut block = ArrayVec::<u8, BLOCK_ROOM>::new();
-        if !pack_name(&mut block, name.as_slice()) {
-            return Err(RealmRefusal::Memory);
-        }
-        put_new(entries, *name.allocator(), block.as_slice(), account)
-    }
-
-    /// Gives the name of these components its account. A name that has one is refused.
-    ///
-    /// A name whose block is longer than `BLOCK_ROOM`, and one with a character that isn't below 128, finds no room: `Memory`.
-    pub fn insert_components(
-        &mut self,
-        alloc: Global,
-        name: &[Vec<u8>],
-        account: Account,
-    ) -> Result<(), RealmRefusal>
-        ensures exists { (result ≡ Err RealmRefusal.Exists) ↔ IsSome (finite.get self.old (parts name.now)) }
-        ensures refusal { IsMemoryAside result (inserting self.old (parts name.now)) }
-        ensures ok { OnOk result (self.new ≡ finite.insert self.old (parts name.now) account) }
-        ensures err { OnErr result (self.new ≡ self.old) }
-    {
-        let mut block = ArrayVec::<u8, SHORT_ROOM>::new();
-        if !pack_parts(&mut block, name) {
-            return self.insert_long(alloc, name, account);
-        }
-        let entries = &mut self.entries;
-        put_new(entries, alloc, block.as_slice(), account)
-    }
-
-    // Does what `insert_components` does, with room for a block of up to `BLOCK_ROOM`. It stands apart: few calls clear that room.
-    #[inline(never)]
-    fn insert_long(
-        &mut self,
-        alloc: Global,
-        name: &[Vec<u8>],
-        account: Account,
-    ) -> Result<(), RealmRefusal>
-        ensures exists { (result ≡ Err RealmRefusal.Exists) ↔ IsSome (finite.get self.old (parts name.now)) }
-        ensures refusal { IsMemoryAside result (inserting self.old (parts name.now)) }
-        ensures ok { OnOk result (self.new ≡ finite.insert self.old (parts name.now) account) }
-        ensures err { OnErr result (self.new ≡ self.old) }
-    {
-        let entries = &mut self.entries;
-        let mut block = ArrayVec::<u8, BLOCK_ROOM>::new();
-        if !pack_parts(&mut block, name) {
-            return Err(RealmRefusal::Memory);
-        }
-        put_new(entries, alloc, block.as_slice(), account)
-    }
-
-    /// Takes a name's account away. A name that has none is refused. It takes no memory.
-    pub fn remove(&mut self, name: &[Vec<u8>]) -> Result<(), RealmRefusal>
-        ensures refusal { result ≡ removing self.old (parts name.now) }
-        ensures ok { OnOk result (self.new ≡ finite.remove self.old (parts name.now)) }
-        ensures err { OnErr result (self.new ≡ self.old) }
-    {
-        let entries = &mut self.entries;
-        let mut block = ArrayVec::<u8, BLOCK_ROOM>::new();
-        if !pack_parts(&mut block, name) {
-            return Err(RealmRefusal::Unknown);
-        }
-        if entries.remove(block.as_slice()).is_none() {
-            return Err(RealmRefusal::Unknown);
-        }
-        Ok(())
-    }
-
-    /// Gives a name's account its next key, with the next kvno and no salt. It takes no memory.
-    ///
-    /// It is refused, in this order: `BadKeyLength`; `Unknown` for a name that has no account; and `NumberSpent` where the
-    /// account's kvno is the greatest.
-    pub fn change_key(
-        &mut self,
-        name: &[Vec<u8>],
-        suite: CipherSuite,
-        key: &[u8],
-    ) -> Result<(), RealmRefusal>
-        ensures refusal { IfErr result (λ refusal. changing self.old (parts name.now) suite key.now ≡ Err refusal) }
-        ensures refuses { (refusal : RealmRefusal) → changing self.old (parts name.now) suite key.now ≡ Err refusal → result ≡ Err refusal }
-        ensures ok { OnOk result ((account : AccountRecord) × (changing self.old (parts name.now) suite key.now ≡ Ok account)
-            × (self.new ≡ finite.insert self.old (parts name.now) account)) }
-        ensures err { OnErr result (self.new ≡ self.old) }
-    {
-        let key = key_of(suite, key)?;
-        let entries = &mut self.entries;
-        let mut block = ArrayVec::<u8, BLOCK_ROOM>::new();
-        if !pack_parts(&mut block, name) {
-            return Err(RealmRefusal::Unknown);
-        }
-        rekey(entries, block.as_slice(), key)
-    }
+// The line of the ticket-granting service of a new realm.
+fn service_line(
+    rt: &HostRuntime,
+    realm: &GeneralStringAsn1,
+    suite: CipherSuite,
+    input: &KeyInput,
+) -> Result<AccountLine, Stop> {
+    let name = service_name(rt.alloc(), realm)?;
+    let salted = key_without_password(rt, suite, input)?;
+    Ok(AccountLine {
+        name,
+        account: Account::new(salted.key, 1, None),
+        is_disabled: false,
+    })
 }
 
-ghost use Rattle.std.specs.BTreeMap.{IsUnchanged, UpdatesBy, get_by, keys};
-ghost use Rattle.krb_accounts.specs.Packed.{fit_in, packed};
-ghost use Rattle.krb_accounts.specs.Account.{AccountRecord};
-ghost use Rattle.krb_accounts.specs.Accounts.{rekeyed};
-ghost use Rattle.krb_accounts.specs.Entries.{AreBlocks, IsBlock, block_cmp, cmp_blocks};
-
-/// Makes an empty block that of a name. The answer is false where the block has no room for it.
-fn pack_name<const N: usize>(block: &mut ArrayVec<u8, N>, name: &[GeneralStringAsn1]) -> bool
-    requires { block.old.items ≡ [] }
-    ensures fits { result ≡ fit_in N name.now }
-    ensures packed { IsTrue result → block.new.items ≡ packed name.now }
-{
-    for component in name {
-        if !pack_within(block, component.as_bytes()) {
-            return false;
-        }
-    }
-    true
-}
-
-/// Writes the block of the name with these components into an empty one. The result is false where there is no room for it, or
-/// where a character isn't below 128.
-fn pack_parts<const N: usize>(block: &mut ArrayVec<u8, N>, name: &[Vec<u8>]) -> bool
-    requires { block.old.items ≡ [] }
-    ensures fits { result ≡ fit_in N (parts name.now) }
-    ensures packed { IsTrue result → block.new.items ≡ packed (parts name.now) }
-{
-    for component in name {
-        if !pack_within(block, component.as_slice()) {
-            return false;
-        }
-    }
-    true
-}
-
-/// Puts an account at a block. A block that has one is refused.
-fn put_new(
-    entries: &mut BTreeMap<Vec<u8>, Account>,
+/// The name of the ticket-granting service of a realm.
+pub(crate) fn service_name(
     alloc: Global,
-    block: &[u8],
-    account: Account,
-) -> Result<(), RealmRefusal>
-    ensures exists { (result ≡ Err RealmRefusal.Exists) ↔ IsSome (get_by (block_cmp block.now) entries.old) }
-    ensures refusal { IfErr result (λ refusal. (refusal ≡ RealmRefusal.Memory) ⊎ (refusal ≡ RealmRefusal.Exists)) }
-    ensures ok { OnOk result (UpdatesBy cmp_blocks (block_cmp block.now) entries.old entries.new (Some account)) }
-    ensures blocks { OnOk result (AreBlocks (keys entries.old) → IsBlock block.now → AreBlocks (keys entries.new)) }
-    ensures err { OnErr result (IsUnchanged entries.old entries.new) }
-{
-    let Ok(key) = Vec::from_slice(alloc, block) else {
-        if entries.contains_key(block) {
-            return Err(RealmRefusal::Exists);
-        }
-        return Err(RealmRefusal::Memory);
+    realm: &GeneralStringAsn1,
+) -> Result<PrincipalName, AllocError> {
+    let components = krbtgt_of(alloc, realm)?;
+    principal_name(alloc, components)
+}
+
+/// The line of a realm, and that of its ticket-granting service.
+pub(crate) fn two_lines(
+    alloc: Global,
+    realm: RealmLine,
+    service: AccountLine,
+) -> Result<Vec<Line>, Stop> {
+    let lines = vec![in alloc; Line::Realm(realm), Line::Account(service)]?;
+    Ok(lines)
+}
+
+fn warn_of_created(rt: &HostRuntime, lines: &[Line]) -> Result<(), Stop> {
+    let Some(realm) = realm_among(lines) else {
+        return Ok(());
     };
-    let Ok(entry) = entries.entry(key) else {
-        return Err(RealmRefusal::Memory);
+    let own = RealmKey::among(rt.alloc(), realm, lines)?;
+    warn_of_realm(rt, Stream::Error, &own)
+}
+
+// The line of a realm of this name, if clients can type it, with the settings of a new realm.
+fn realm_line(alloc: Global, name: &str) -> Result<RealmLine, Stop> {
+    if !can_be_typed(name.as_bytes()) {
+        return Err(refused(
+            alloc,
+            "REALM: expected 1 to 255 printable ASCII characters that clients can type: no blank, and none of \"#*/;=@[\\]{}",
+        ));
+    }
+    let (Ok(name), Ok(settings)) = (
+        realm_name_of(alloc, name.as_bytes()),
+        Settings::new(USUAL_SKEW, USUAL_LIFETIME),
+    ) else {
+        return Err(Stop::Memory);
     };
-    match entry {
-        Entry::Vacant(vacant) => {
-            vacant.insert(account);
-            Ok(())
-        }
-        Entry::Occupied(_) => Err(RealmRefusal::Exists),
+    Ok(RealmLine {
+        name,
+        settings: settings.with_policy(NEW_POLICY),
+        pkinit: None,
+    })
+}
+
+/// What `add` and `key` are given.
+#[derive(Drop)]
+struct Given<'a> {
+    /// The suite, if one is given.
+    suite: Option<CipherSuite>,
+    /// The path of the text.
+    path: &'a str,
+    name: PrincipalName,
+    input: KeyInput,
+}
+
+// What these arguments and standard input give to a command that expects `command`.
+fn given_of<'a>(
+    rt: &HostRuntime,
+    command: &str,
+    arguments: &'a [String],
+) -> Result<Given<'a>, Stop> {
+    let (options, arguments) = options_of(rt.alloc(), arguments)?;
+    let [path, name] = arguments else {
+        return Err(expected(rt.alloc(), command));
+    };
+    let name = name_of(rt.alloc(), name.as_str())?;
+    let input = input_of(rt, options.source)?;
+    Ok(Given {
+        suite: options.suite,
+        path: path.as_str(),
+        name,
+        input,
+    })
+}
+
+/// `add [-e SUITE] [-k [random]] TEXT NAME`: adds an account, with kvno 1.
+pub(crate) fn add_account(rt: &HostRuntime, arguments: &[String]) -> Result<(), Stop> {
+    let given = given_of(rt, "add [-e SUITE] [-k [random]] TEXT NAME", arguments)?;
+    let new_file = begin(rt, given.path, FileKind::Accounts, &[])?;
+    let lines = added(rt, given);
+    finish_text(rt, new_file, lines)
+}
+
+fn added(rt: &HostRuntime, given: Given<'_>) -> Result<Vec<Line>, Stop> {
+    let mut lines = lines_of(rt, given.path)?;
+    let components = given.name.name_string.0.as_slice();
+    if place_of(&lines, components).is_some() {
+        return Err(refusal_of(rt.alloc(), &given.name, EditRefusal::Exists));
+    }
+    let suite = given.suite.unwrap_or(SUITE);
+    let salted = salted_key(rt, &given, &lines, suite)?;
+    put_account(&mut lines, given.name, salted)?;
+    Ok(lines)
+}
+
+// Adds an account of a name that has none, with kvno 1.
+fn put_account(lines: &mut Vec<Line>, name: PrincipalName, salted: SaltedKey) -> Result<(), Stop> {
+    let line = AccountLine {
+        name,
+        account: Account::new(salted.key, 1, salted.salt),
+        is_disabled: false,
+    };
+    match add(lines, line) {
+        Ok(()) => Ok(()),
+        Err(_) => Err(Stop::Memory),
     }
 }
 
-/// Gives the account at a block its next key.
-fn rekey(
-    entries: &mut BTreeMap<Vec<u8>, Account>,
-    block: &[u8],
-    key: Key,
-) -> Result<(), RealmRefusal>
-    ensures refusal { IfErr result (λ refusal. rekeyed key.suite key.bytes (get_by (block_cmp block.now) entries.old) ≡ Err refusal) }
-    ensures ok { OnOk result ((account : AccountRecord) × UpdatesBy cmp_blocks (block_cmp block.now) entries.old entries.new (Some account)
-        × (rekeyed key.suite key.bytes (get_by (block_cmp block.now) entries.old) ≡ Ok account)) }
-    ensures keys { keys entries.new ≡ keys entries.old }
-    ensures err { OnErr result (IsUnchanged entries.old entries.new) }
-{
-    let Some(account) = entries.get_mut(block) else {
-        return Err(RealmRefusal::Unknown);
+// The key that was given, of which it warns.
+fn salted_key(
+    rt: &HostRuntime,
+    given: &Given<'_>,
+    lines: &[Line],
+    suite: CipherSuite,
+) -> Result<SaltedKey, Stop> {
+    let realm = realm_of(rt, given.path, lines)?;
+    let salted = key_of_input(rt, given, realm, suite)?;
+    warn_of_key(rt, given, realm, lines, &salted.key)?;
+    Ok(salted)
+}
+
+fn key_of_input(
+    rt: &HostRuntime,
+    given: &Given<'_>,
+    realm: &RealmLine,
+    suite: CipherSuite,
+) -> Result<SaltedKey, Stop> {
+    let KeyInput::Password(password) = &given.input else {
+        return key_without_password(rt, suite, &given.input);
     };
-    *account = account.with_key(key)?;
-    Ok(())
+    let realm = realm.name.as_bytes();
+    let name = &given.name;
+    if is_service(realm, name) {
+        return Err(refused(
+            rt.alloc(),
+            format_args!(
+                "{name}: the realm's key is made of no password: expected -k random, or -k and a key"
+            ),
+        ));
+    }
+    let components = name.name_string.0.as_slice();
+    key_of_password(rt.alloc(), suite, password, realm, components)
+}
+
+// Warns of a key, beside the realm's. That of the realm's own account isn't judged beside the key that it has now.
+fn warn_of_key(
+    rt: &HostRuntime,
+    given: &Given<'_>,
+    realm: &RealmLine,
+    lines: &[Line],
+    key: &Key,
+) -> Result<(), Stop> {
+    let alloc = rt.alloc();
+    let others: &[Line] = if is_service(realm.name.as_bytes(), &given.name) {
+        &[]
+    } else {
+        lines
+    };
+    let own = RealmKey::among(alloc, realm, others)?;
+    let told = told_secret(alloc, given, key)?;
+    warn_of_account(rt, Stream::Error, &own, &given.name, key.suite(), told)
+}
+
+// The secret of which it warns: the key, or the password of which it was made.
+fn told_secret(alloc: Global, given: &Given<'_>, key: &Key) -> Result<Secret, AllocError> {
+    match &given.input {
+        KeyInput::Password(password) => Ok(Secret::Password(Vec::from_slice(alloc, password)?)),
+        KeyInput::Digits(_) | KeyInput::Random => {
+            Ok(Secret::Key(Vec::from_slice(alloc, key.as_bytes())?))
+        }
+    }
+}
+
+/// `key [-e SUITE] [-k [random]] TEXT NAME`: gives an account its next key, with the next kvno.
+pub(crate) fn change_account(rt: &HostRuntime, arguments: &[String]) -> Result<(), Stop> {
+    let given = given_of(rt, "key [-e SUITE] [-k [random]] TEXT NAME", arguments)?;
+    let new_file = begin(rt, given.path, FileKind::Accounts, &[])?;
+    let lines = changed(rt, &given);
+    finish_text(rt, new_file, lines)
+}
+
+fn changed(rt: &HostRuntime, given: &Given<'_>) -> Result<Vec<Line>, Stop> {
+    let mut lines = lines_of(rt, given.path)?;
+    let salted = next_key(rt, given, &lines)?;
+    let components = given.name.name_string.0.as_slice();
+    match change_key(&mut lines, components, salted.key, salted.salt) {
+        Ok(()) => Ok(lines),
+        Err(refusal) => Err(refusal_of(rt.alloc(), &given.name, refusal)),
+    }
+}
+
+// The next key of an account, of its suite where none is given.
+fn next_key(rt: &HostRuntime, given: &Given<'_>, lines: &[Line]) -> Result<SaltedKey, Stop> {
+    match account_among(lines, given.name.name_string.0.as_slice()) {
+        Some(own) => {
+            let suite = given.suite.unwrap_or(own.account.suite());
+            salted_key(rt, given, lines, suite)
+        }
+        None => Err(refusal_of(rt.alloc(), &given.name, EditRefusal::Unknown)),
+    }
+}
+
+/// What is done with one account, beside its key.
+#[derive(Clone, Copy)]
+pub(crate) enum Edit {
+    /// Its line is taken away.
+    Remove,
+    /// It is disabled.
+    Disable,
+    /// It is enabled.
+    Enable,
+}
+
+impl Edit {
+    // The arguments of the command.
+    fn command(self) -> &'static str {
+        match self {
+            Edit::Remove => "remove TEXT NAME",
+            Edit::Disable => "disable TEXT NAME",
+            Edit::Enable => "enable TEXT NAME",
+        }
+    }
+
+    fn change(self, lines: &mut Vec<Line>, name: &[GeneralStringAsn1]) -> Result<(), EditRefusal> {
+        match self {
+            Edit::Remove => remove(lines, name),
+            Edit::Disable => disable(lines, name),
+            Edit::Enable => enable(lines, name),
+        }
+    }
+}
+
+/// `remove TEXT NAME`, `disable TEXT NAME` and `enable TEXT NAME`: takes an account away, disables it or enables it.
+pub(crate) fn edit_account(rt: &HostRuntime, edit: Edit, arguments: &[String]) -> Result<(), Stop> {
+    let [path, name] = arguments else {
+        return Err(expected(rt.alloc(), edit.command()));
+    };
+    let name = name_of(rt.alloc(), name.as_str())?;
+    let new_file = begin(rt, path.as_str(), FileKind::Accounts, &[])?;
+    let lines = edited(rt, path.as_str(), edit, &name);
+    finish_text(rt, new_file, lines)
+}
+
+fn edited(
+    rt: &HostRuntime,
+    path: &str,
+    edit: Edit,
+    name: &PrincipalName,
+) -> Result<Vec<Line>, Stop> {
+    let mut lines = lines_of(rt, path)?;
+    match edit.change(&mut lines, name.name_string.0.as_slice()) {
+        Ok(()) => Ok(lines),
+        Err(refusal) => Err(refusal_of(rt.alloc(), name, refusal)),
+    }
+}
+
+/// The stop of a refused change of the account of a name.
+pub(crate) fn refusal_of(alloc: Global, name: &PrincipalName, refusal: EditRefusal) -> Stop {
+    match refusal {
+        EditRefusal::Memory => Stop::Memory,
+        EditRefusal::Exists
+        | EditRefusal::Unknown
+        | EditRefusal::KeptAccount
+        | EditRefusal::NumberSpent => refused(alloc, format_args!("{name}: {refusal}")),
+    }
 }

@@ -17,11 +17,10 @@ use krb_messages::data_types::{
     AuthenticatorInner, EncTicketPartInner, EncryptedData, EncryptionKey, TicketInner,
 };
 use krb_messages::messages::ApReqInner;
-use krb_messages::{Refusal, is_same_name, is_same_realm};
+use krb_messages::{Refusal, is_number, is_same_name, is_same_realm};
 use krb_tickets::key_of;
 use krb_time::{Moment, moment_at};
 use picky_asn1::date::GeneralizedTime;
-use picky_asn1::is_number;
 use picky_asn1::wrapper::GeneralStringAsn1;
 use std::alloc::Global;
 

@@ -1,5 +1,5 @@
 -- Requests to a KDC (RFC 4120, section 5.4.1): what those for a first ticket and for further ones have in common.
-use Rattle.std.specs.Prelude.{ℕ, ◌%◌, Bool, List, [], ◌∷◌, Option, None, Some, pos, if◌then◌else◌}
+use Rattle.std.specs.Prelude.{ℕ, ℤ, ◌%◌, Bool, List, [], ◌∷◌, Option, None, Some, map, pos, if◌then◌else◌}
 use Rattle.std.specs.Int.{from_be_bytes, w32}
 use Rattle.picky_asn1.specs.BitString.{Bits}
 use Rattle.picky_asn1.specs.Bytes.{Bytes}
@@ -7,6 +7,7 @@ use Rattle.picky_asn1_der.specs.declared.wrapper.ExplicitContextTag.{ExplicitCon
 use Rattle.asn1_leaves.specs.declared.date.GeneralizedTime.{GeneralizedTime}
 use Rattle.krb_constants.specs.declared.types.TheConstants.{KERBEROS_VERSION, NT_PRINCIPAL, NT_SRV_INST}
 use Rattle.krb_crypto.specs.Suites.{cipher_number}
+use Rattle.krb_crypto.specs.declared.suite.CipherSuite.{CipherSuite}
 use Rattle.krb_messages.specs.declared.data_types.pa_data.PaData.{PaData}
 use Rattle.krb_messages.specs.declared.data_types.principal_name.PrincipalName.{PrincipalName}
 use Rattle.krb_messages.specs.RandomBytes.{Random, nonce_bytes}
@@ -27,9 +28,13 @@ no_options = record { octets = 0 ∷ 0 ∷ 0 ∷ 0 ∷ []; unused = 0 }
 abbrev pub name_where : ClientRecord → Bool → Option (ExplicitContextTag 1 PrincipalName)
 name_where client named = if named then Some (record { 0 = principal_name NT_PRINCIPAL client.components }) else None
 
--- the client, where it is named, a service of its realm, the end asked for, the nonce, and the client's suite as the only one
-abbrev pub request_body : ClientRecord → Bool → List Bytes → GeneralizedTime → ℕ → KdcReqBody
-request_body client named service till nonce = record {
+-- the etypes of suites, in their order
+abbrev pub etypes : List CipherSuite → List ℤ
+etypes suites = map (λ suite. pos (cipher_number suite)) suites
+
+-- the client, where it is named, a service of its realm, the end asked for, the nonce, and the etypes of the suites
+abbrev pub listing_body : ClientRecord → Bool → List CipherSuite → List Bytes → GeneralizedTime → ℕ → KdcReqBody
+listing_body client named suites service till nonce = record {
   kdc_options = record { 0 = no_options };
   cname = record { 0 = name_where client named };
   realm = record { 0 = client.realm };
@@ -38,11 +43,15 @@ request_body client named service till nonce = record {
   till = record { 0 = record { 0 = till } };
   rtime = record { 0 = None };
   nonce = record { 0 = pos nonce };
-  etype = record { 0 = pos (cipher_number client.suite) ∷ [] };
+  etype = record { 0 = etypes suites };
   addresses = record { 0 = None };
   enc_authorization_data = record { 0 = None };
   additional_tickets = record { 0 = None };
 }
+
+-- the body with the client's suite as the only one
+abbrev pub request_body : ClientRecord → Bool → List Bytes → GeneralizedTime → ℕ → KdcReqBody
+request_body client named service till nonce = listing_body client named (client.suite ∷ []) service till nonce
 
 -- preauthentication data of a type (RFC 4120, section 7.5.2)
 abbrev pub pa_data_of : ℕ → Bytes → PaData

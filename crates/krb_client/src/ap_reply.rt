@@ -10,9 +10,9 @@ use crate::refusal::TakeRefusal;
 use crate::taking::is_of_type;
 use krb_constants::types::AP_REP_MSG_TYPE;
 use krb_messages::data_types::EncApRepPartInner;
+use krb_messages::is_number;
 use krb_messages::messages::ApRepInner;
 use krb_time::Moment;
-use picky_asn1::is_number;
 use std::alloc::Global;
 
 impl Client {

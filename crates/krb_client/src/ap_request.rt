@@ -19,43 +19,52 @@ use krb_time::Moment;
 use picky_asn1::wrapper::OctetStringAsn1;
 use std::alloc::{AllocError, Global};
 
+/// What a request to a service is made of: what the client chooses, when it asks, and random octets (RFC 4120, section 3.2.2).
+#[derive(Clone, Copy)]
+pub struct ServiceRequest<'a> {
+    /// Whether the service is asked for a reply: the option mutual-required (RFC 4120, section 5.5.1).
+    pub mutual_required: bool,
+    /// Whether the client chooses a subkey for what follows.
+    pub with_subkey: bool,
+    /// The moment of the request, by the client's clock. It is the authenticator's time.
+    pub moment: Moment,
+    /// Random octets, 96 or more, which no other request has.
+    pub words: &'a [u8],
+}
+
 impl Client {
-    /// The request to a service by what a realm granted, at the moment, and what the client has to remember for the reply
-    /// (RFC 4120, section 3.2.2). `mutual_required` asks for a reply, and `with_subkey` chooses a key for what follows.
+    /// The request to a service by what a realm granted, and what the client has to remember for the reply (RFC 4120, section 3.2.2).
     ///
-    /// `words`: random bytes, 96 or more. The first are the confounder, and 32 to 63 the subkey's seed. Fails only if memory runs out.
+    /// Of its random octets the first are the confounder, and 32 to 63 the subkey's seed. Fails only if memory runs out.
     pub fn ap_request(
         &self,
         alloc: Global,
         credential: &Credential,
-        mutual_required: bool,
-        with_subkey: bool,
-        moment: Moment,
-        words: &[u8],
+        request: &ServiceRequest<'_>,
     ) -> Result<(Vec<u8>, ApAsked), AskRefusal>
-        requires { AreEnoughForRequest words.now }
+        requires { AreEnoughForRequest request.now.words.now }
         ensures asks { IfOk result (λ r.
-            AsksAp self.now credential.now mutual_required with_subkey moment words.now r.0.items) }
+            AsksAp self.now credential.now request.now.mutual_required request.now.with_subkey request.now.moment request.now.words.now r.0.items) }
         ensures only { IfOk result (λ r. (other : List ℕ)
-            → AsksAp self.now credential.now mutual_required with_subkey moment words.now other → other ≡ r.0.items) }
-        ensures asked { IfOk result (λ r. r.1 ≡ ap_asked credential.now with_subkey moment words.now) }
+            → AsksAp self.now credential.now request.now.mutual_required request.now.with_subkey request.now.moment request.now.words.now other → other ≡ r.0.items) }
+        ensures asked { IfOk result (λ r. r.1 ≡ ap_asked credential.now request.now.with_subkey request.now.moment request.now.words.now) }
         ensures refusal { IfErr result (λ e. e ≡ AskRefusal.Memory) }
     {
         let suite = credential.suite();
-        let subkey = subkey_of(alloc, with_subkey, suite, words)?;
+        let subkey = subkey_of(alloc, request.with_subkey, suite, request.words)?;
         let presented = presented_subkey(alloc, suite, &subkey)?;
-        let authenticator = self.authenticator(alloc, moment, None, presented)?;
-        let confounder = confounder_at(suite, words, AUTHENTICATOR_CONFOUNDER);
+        let authenticator = self.authenticator(alloc, request.moment, None, presented)?;
+        let confounder = confounder_at(suite, request.words, AUTHENTICATOR_CONFOUNDER);
         let bytes = ap_request(
             alloc,
             credential,
             key_usages::AP_REQ_AUTHENTICATOR,
-            mutual_required,
+            request.mutual_required,
             authenticator,
             confounder,
         )?;
         let key = credential.key().copied();
-        Ok((bytes, ApAsked::new(key, moment, subkey)))
+        Ok((bytes, ApAsked::new(key, request.moment, subkey)))
     }
 }
 

@@ -9,7 +9,6 @@ use crate::client::Client;
 use crate::copies::ticket_copy;
 use crate::credential::Credential;
 use crate::names::principal_name;
-use decision_tables::both;
 use krb_constants::ap_options::MUTUAL_REQUIRED_MASK;
 use krb_constants::types::{AP_REQ_MSG_TYPE, AUTHENTICATOR_TYPE, KERBEROS_VERSION, NT_PRINCIPAL};
 use krb_messages::data_types::{
@@ -20,7 +19,7 @@ use krb_tickets::sealed_data;
 use krb_time::Moment;
 use picky_asn1::date::GeneralizedTime;
 use picky_asn1::wrapper::{BitStringAsn1, GeneralStringAsn1, GeneralizedTimeAsn1, IntegerAsn1};
-use picky_asn1_der::{ExplicitContextTag, Optional, tagged_encoding};
+use picky_asn1_der::{ExplicitContextTag, Optional, both, tagged_encoding};
 use std::alloc::{AllocError, Global};
 
 // The parts of an authenticator that need memory: the client's, and the microseconds of its time. They are made at once, so that

@@ -1,11 +1,13 @@
 //! Clients.
 ghost use Rattle.std.specs.Prelude.{◌≡◌, Err, IfOk};
-ghost use Rattle.krb_accounts.specs.Names.{AreComponents, IsRealmName, parts};
+ghost use Rattle.krb_realm_accounts.specs.Names.{AreComponents, IsRealmName, parts};
 
 use crate::by_key::ByKey;
 use crate::refusal::AskRefusal;
-use krb_accounts::{are_components, components_of, is_realm_name, password_salt, realm_name_of};
 use krb_crypto::{CipherSuite, Key};
+use krb_realm_accounts::{
+    are_components, components_of, is_realm_name, password_salt, realm_name_of,
+};
 use picky_asn1::wrapper::GeneralStringAsn1;
 use std::alloc::{AllocError, Global};
 use std::marker::Model;
@@ -21,7 +23,7 @@ pub struct Client {
 
 impl Model for Client {
     ghost use Rattle.std.specs.Prelude.{IsTrue};
-    ghost use Rattle.krb_accounts.specs.Names.{are_components, is_realm_name};
+    ghost use Rattle.krb_realm_accounts.specs.Names.{are_components, is_realm_name};
     ghost use Rattle.krb_client.specs.Client.{ClientRecord};
 
     ghost Value = { ClientRecord };
@@ -61,8 +63,8 @@ impl Client {
         Ok(client)
     }
 
-    // The client of names that are names. Fails only if memory runs out.
-    fn named(
+    /// The client of names that are names (`is_realm_name`, `are_components`). Fails only if memory runs out.
+    pub fn named(
         alloc: Global,
         realm: &[u8],
         name: &[Vec<u8>],

@@ -4,12 +4,12 @@ ghost use Rattle.krb_tickets.specs.Keys.{key_in};
 ghost use Rattle.krb_client.specs.Taking.{credential_of, starttime_of};
 
 use crate::copies::ticket_copy;
-use decision_tables::both;
 use krb_crypto::{CipherSuite, Key};
 use krb_messages::data_types::{KerberosFlags, PrincipalName, Ticket};
 use krb_messages::messages::{EncKdcRepPart, KdcRep};
 use picky_asn1::date::GeneralizedTime;
 use picky_asn1::wrapper::GeneralStringAsn1;
+use picky_asn1_der::both;
 use std::alloc::AllocError;
 use std::marker::Model;
 

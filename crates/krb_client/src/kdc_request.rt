@@ -1,13 +1,12 @@
 //! Requests to a KDC: what those for a first ticket and for further ones have in common.
-ghost use Rattle.std.specs.Prelude.{◌≡◌, [], ◌∷◌, pos, IfOk};
+ghost use Rattle.std.specs.Prelude.{◌≡◌, [], ◌∷◌, IfOk};
 ghost use Rattle.krb_messages.specs.RandomBytes.{AreEnoughForRequest};
-ghost use Rattle.krb_crypto.specs.Suites.{cipher_number};
-ghost use Rattle.krb_client.specs.Requests.{pa_data_of, name_where, no_options, nonce_of, request_body, kdc_request_of};
+ghost use Rattle.krb_client.specs.Requests.{etypes, pa_data_of, name_where, no_options, nonce_of, listing_body, kdc_request_of};
 
 use crate::client::Client;
 use crate::names::principal_name;
-use decision_tables::both;
 use krb_constants::types::{KERBEROS_VERSION, NT_PRINCIPAL, NT_SRV_INST};
+use krb_crypto::CipherSuite;
 use krb_messages::data_types::{KerberosFlags, PaData, PrincipalName};
 use krb_messages::messages::{KdcReq, KdcReqBody};
 use krb_messages::random_bytes::NONCE;
@@ -16,7 +15,7 @@ use picky_asn1::wrapper::{
     Asn1SequenceOf, BitStringAsn1, GeneralStringAsn1, GeneralizedTimeAsn1, IntegerAsn1,
     OctetStringAsn1,
 };
-use picky_asn1_der::{ExplicitContextTag, ExplicitContextTag1, Optional};
+use picky_asn1_der::{ExplicitContextTag, ExplicitContextTag1, Optional, both};
 use std::alloc::{AllocError, Global};
 
 /// A nonce has 31 bits, so that it is positive for every reader (RFC 4120, section 5.4.1).
@@ -24,21 +23,22 @@ const NONCES: u32 = 0x8000_0000;
 
 impl Client {
     /// The body of a request for a ticket for a service of the client's realm till a time, with this nonce (RFC 4120, section 5.4.1). Its
-    /// only etype is the client's suite, and it has no option and no address. `named`: whether it has the client's name, as an AS
-    /// request's body does. Fails only if memory runs out.
+    /// etypes are those of the suites, in their order, and it has no option and no address. `named`: whether it has the client's name, as
+    /// an AS request's body does. Fails only if memory runs out.
     pub fn request_body(
         &self,
         alloc: Global,
         named: bool,
+        suites: &[CipherSuite],
         service: &[GeneralStringAsn1],
         till: GeneralizedTime,
         nonce: u32,
     ) -> Result<KdcReqBody, AllocError>
-        ensures { IfOk result (λ body. body ≡ request_body self.now named service.now till nonce) }
+        ensures { IfOk result (λ body. body ≡ listing_body self.now named suites.now service.now till nonce) }
     {
         let options = no_options(alloc);
         let nonce = IntegerAsn1::from_u64(alloc, u64::from(nonce));
-        let suites = self.suites(alloc);
+        let suites = etypes(alloc, suites);
         let client = self.name_where(alloc, named);
         let realm: Result<_, AllocError> = self.realm().clone();
         let service = principal_name(alloc, NT_SRV_INST, service);
@@ -59,15 +59,6 @@ impl Client {
             enc_authorization_data: Optional(None),
             additional_tickets: Optional(None),
         })
-    }
-
-    // The suites that the client asks for: its own alone.
-    fn suites(&self, alloc: Global) -> Result<Asn1SequenceOf<IntegerAsn1>, AllocError>
-        ensures { IfOk result (λ suites. suites ≡ pos (cipher_number self.now.suite) ∷ []) }
-    {
-        let suite = IntegerAsn1::from_u64(alloc, u64::from(u8::from(self.suite())))?;
-        let suites = vec![in alloc; suite]?;
-        Ok(Asn1SequenceOf::from(suites))
     }
 
     // The client's name, where the request is to have it.
@@ -135,6 +126,18 @@ fn padata_in(alloc: Global, pa_data: PaData) -> Result<Asn1SequenceOf<PaData>, A
 {
     let padata = vec![in alloc; pa_data]?;
     Ok(Asn1SequenceOf::from(padata))
+}
+
+// The etypes of the suites.
+fn etypes(alloc: Global, suites: &[CipherSuite]) -> Result<Asn1SequenceOf<IntegerAsn1>, AllocError>
+    ensures { IfOk result (λ list. list ≡ etypes suites.now) }
+{
+    let mut list = Vec::with_capacity(alloc, suites.len())?;
+    for suite in suites {
+        let etype = IntegerAsn1::from_u64(alloc, u64::from(u8::from(*suite)))?;
+        list.push(etype)?;
+    }
+    Ok(Asn1SequenceOf::from(list))
 }
 
 fn no_options(alloc: Global) -> Result<KerberosFlags, AllocError>

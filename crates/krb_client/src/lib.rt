@@ -1,11 +1,13 @@
 //! A client: it asks a realm for a first ticket and for further ones, asks a service by what it was granted, and takes their
 //! replies (RFC 4120, sections 3.1 to 3.3). How it authenticates itself is a trait, `Means`. A key that it shares with its realm is
-//! one such means, `ByKey`. `AsAsked`, `TgsAsked` and `ApAsked` are what it remembers of its requests.
+//! one such means, `ByKey`. Its requests are made of a `TicketRequest` or a `ServiceRequest`. `AsAsked`, `TgsAsked` and `ApAsked` are
+//! what it remembers of them.
 //!
 //! `Client::as_request`, `Client::tgs_request` and `Client::ap_request` write the one encoding of what the client asks, with what is sealed
-//! in it (`AsksAs`, `AsksTgs`, `AsksAp`). `Client::take_as_reply`, `Client::take_tgs_reply` and `Client::take_ap_reply` accept a reply if
-//! and only if it answers the request. The first reason against a reply decides the refusal (`IsTaken`). The key of `Client::by_password`
-//! is the password's. `Credential::new` makes a credential of exactly its parts.
+//! in it (`AsksAs`, `AsksTgs`, `AsksAp`). `Client::as_request_of_suites` and `Client::tgs_request_of_suites` do so with the etypes of given
+//! suites (`AsksAsOfSuites`, `AsksTgsOfSuites`). `Client::take_as_reply`, `Client::take_tgs_reply` and `Client::take_ap_reply` accept a
+//! reply if and only if it answers the request. The first reason against a reply decides the refusal (`IsTaken`). The key of
+//! `Client::by_password` is the password's. `Credential::new` makes a credential of exactly its parts.
 #![tactic(auto)]
 
 mod agreement;
@@ -27,9 +29,11 @@ mod refusal;
 mod taking;
 mod tgs_reply;
 mod tgs_request;
+mod ticket_request;
 
 pub use agreement::agreement_part;
 pub use ap_reply::tells;
+pub use ap_request::ServiceRequest;
 pub use asked::{ApAsked, AsAsked, TgsAsked};
 pub use authenticator::ap_request as ap_request_with;
 pub use by_key::ByKey;
@@ -40,3 +44,4 @@ pub use means::Means;
 pub use read::{open_ap_part, read_ap_reply, read_error_code};
 pub use refusal::{AskRefusal, TakeRefusal};
 pub use taking::is_of_type;
+pub use ticket_request::TicketRequest;

@@ -2,10 +2,9 @@
 ghost use Rattle.std.specs.Prelude.{◌≡◌, IfOk};
 ghost use Rattle.krb_client.specs.Held.{principal_name};
 
-use decision_tables::both;
 use krb_messages::data_types::PrincipalName;
 use picky_asn1::wrapper::{Asn1SequenceOf, GeneralStringAsn1, IntegerAsn1};
-use picky_asn1_der::ExplicitContextTag;
+use picky_asn1_der::{ExplicitContextTag, both};
 use std::alloc::{AllocError, Global};
 
 /// The name of this type with copies of the components (RFC 4120, section 5.2.2).

@@ -8,9 +8,9 @@ use crate::client::Client;
 use crate::credential::Credential;
 use crate::refusal::TakeRefusal;
 use krb_constants::types::KERBEROS_VERSION;
+use krb_messages::is_number;
 use krb_messages::messages::{EncKdcRepPart, KdcRep};
 use krb_tickets::{is_answer, key_of};
-use picky_asn1::is_number;
 use picky_asn1::wrapper::{GeneralStringAsn1, IntegerAsn1};
 
 /// Whether a message says that it is of version 5, and of this type.

@@ -1,12 +1,12 @@
 //! Asking for a service ticket.
 ghost use Rattle.std.specs.Prelude.{◌≡◌, ◌↔◌, ◌⊎◌, ℕ, List, length, false, Err, IfErr, IfOk};
 ghost use Rattle.krb_messages.specs.RandomBytes.{AreEnoughForRequest};
-ghost use Rattle.krb_accounts.specs.Names.{are_components, parts};
+ghost use Rattle.krb_realm_accounts.specs.Names.{are_components, parts};
 ghost use Rattle.krb_client.specs.Messages.{tgs_request_bytes};
 ghost use Rattle.krb_messages.specs.Bodies.{body_bytes};
 ghost use Rattle.krb_client.specs.Requests.{nonce_of};
 ghost use Rattle.krb_crypto.specs.Suites.{cipher_confounder_size};
-ghost use Rattle.krb_client.specs.TgsRequest.{AsksTgs, Authenticates, checksum_over, tgs_asked, tgs_body_bytes, tgs_request_of};
+ghost use Rattle.krb_client.specs.TgsRequest.{AsksTgs, AsksTgsOfSuites, Authenticates, checksum_over, further_body, further_request, tgs_asked};
 
 use crate::asked::TgsAsked;
 use crate::authenticator::ap_request;
@@ -14,77 +14,95 @@ use crate::client::Client;
 use crate::credential::Credential;
 use crate::kdc_request::{kdc_request_of, nonce_of, pa_data_of};
 use crate::refusal::AskRefusal;
-use decision_tables::both;
-use krb_accounts::{are_components, components_of};
+use crate::ticket_request::TicketRequest;
 use krb_constants::key_usages;
 use krb_constants::padata_types::PA_TGS_REQ;
 use krb_constants::types::TGS_REQ_MSG_TYPE;
-use krb_crypto::Cipher;
+use krb_crypto::{Cipher, CipherSuite};
 use krb_messages::data_types::Checksum;
 use krb_messages::messages::{KdcReq, KdcReqBody};
 use krb_messages::random_bytes::AUTHENTICATOR_CONFOUNDER;
+use krb_realm_accounts::{are_components, components_of};
 use krb_tickets::confounder_at;
 use krb_time::Moment;
 use picky_asn1::date::GeneralizedTime;
 use picky_asn1::wrapper::{GeneralStringAsn1, IntegerAsn1, OctetStringAsn1};
-use picky_asn1_der::{ExplicitContextTag, encoding_of, tagged_encoding};
+use picky_asn1_der::{ExplicitContextTag, both, encoding_of, tagged_encoding};
 use std::alloc::{AllocError, Global};
 
 impl Client {
-    /// The request for a ticket for a service of the client's realm till a time, by what the realm granted for itself, at the
-    /// moment, and what the client has to remember for the reply (RFC 4120, section 3.3.1).
+    /// The request for a ticket by what the realm granted for itself, and what the client has to remember for the reply (RFC 4120,
+    /// section 3.3.1). Its only etype is that of the client's suite.
     ///
-    /// `words`: random bytes, 96 or more. The first are the confounder, and 16 to 19 the nonce. A name that isn't of 1 to 16 components of
-    /// 1 to 255 characters below 128 is refused.
+    /// Of its random octets the first are the confounder, and 16 to 19 the nonce. A service's name that isn't of 1 to 16 components of 1 to
+    /// 255 characters below 128 is refused.
     pub fn tgs_request(
         &self,
         alloc: Global,
         credential: &Credential,
-        service: &[Vec<u8>],
-        till: GeneralizedTime,
-        moment: Moment,
-        words: &[u8],
+        request: &TicketRequest<'_>,
     ) -> Result<(Vec<u8>, TgsAsked), AskRefusal>
-        requires { AreEnoughForRequest words.now }
+        requires { AreEnoughForRequest request.now.words.now }
         ensures asks { IfOk result (λ r.
-            AsksTgs self.now credential.now (parts service.now) till moment words.now r.0.items) }
+            AsksTgs self.now credential.now (parts request.now.service.now) request.now.till request.now.moment request.now.words.now r.0.items) }
         ensures only { IfOk result (λ r. (other : List ℕ)
-            → AsksTgs self.now credential.now (parts service.now) till moment words.now other → other ≡ r.0.items) }
-        ensures asked { IfOk result (λ r. r.1 ≡ tgs_asked credential.now (parts service.now) words.now) }
-        ensures bad_name { (result ≡ Err AskRefusal.BadName) ↔ (are_components (parts service.now) ≡ false) }
+            → AsksTgs self.now credential.now (parts request.now.service.now) request.now.till request.now.moment request.now.words.now other → other ≡ r.0.items) }
+        ensures asked { IfOk result (λ r. r.1 ≡ tgs_asked credential.now (parts request.now.service.now) request.now.words.now) }
+        ensures bad_name { (result ≡ Err AskRefusal.BadName) ↔ (are_components (parts request.now.service.now) ≡ false) }
         ensures refusal { IfErr result (λ e. (e ≡ AskRefusal.Memory) ⊎ (e ≡ AskRefusal.BadName)) }
     {
-        if !are_components(service) {
+        self.tgs_request_of_suites(alloc, credential, &[self.suite()], request)
+    }
+
+    /// The request of `tgs_request`, but with the etypes of these suites, in their order: the client's own suite doesn't count. The KDC
+    /// chooses one of them for the session key (RFC 4120, section 3.3.3).
+    pub fn tgs_request_of_suites(
+        &self,
+        alloc: Global,
+        credential: &Credential,
+        suites: &[CipherSuite],
+        request: &TicketRequest<'_>,
+    ) -> Result<(Vec<u8>, TgsAsked), AskRefusal>
+        requires { AreEnoughForRequest request.now.words.now }
+        ensures asks { IfOk result (λ r.
+            AsksTgsOfSuites self.now suites.now credential.now (parts request.now.service.now) request.now.till request.now.moment request.now.words.now r.0.items) }
+        ensures only { IfOk result (λ r. (other : List ℕ)
+            → AsksTgsOfSuites self.now suites.now credential.now (parts request.now.service.now) request.now.till request.now.moment request.now.words.now other → other ≡ r.0.items) }
+        ensures asked { IfOk result (λ r. r.1 ≡ tgs_asked credential.now (parts request.now.service.now) request.now.words.now) }
+        ensures bad_name { (result ≡ Err AskRefusal.BadName) ↔ (are_components (parts request.now.service.now) ≡ false) }
+        ensures refusal { IfErr result (λ e. (e ≡ AskRefusal.Memory) ⊎ (e ≡ AskRefusal.BadName)) }
+    {
+        if !are_components(request.service) {
             return Err(AskRefusal::BadName);
         }
         // It is a name, so memory is the only refusal.
-        let Ok(service) = components_of(alloc, service) else {
+        let Ok(service) = components_of(alloc, request.service) else {
             return Err(AskRefusal::Memory);
         };
-        let bytes = self.tgs_bytes(alloc, credential, &service, till, moment, words)?;
-        let asked = TgsAsked::new(service, nonce_of(words), credential.key().copied());
+        let bytes = self.tgs_bytes(alloc, credential, suites, &service, request)?;
+        let nonce = nonce_of(request.words);
+        let asked = TgsAsked::new(service, nonce, credential.key().copied());
         Ok((bytes, asked))
     }
 
-    // The encoding of the request.
+    // The encoding of the request for this service, whose name is one.
     fn tgs_bytes(
         &self,
         alloc: Global,
         credential: &Credential,
+        suites: &[CipherSuite],
         service: &[GeneralStringAsn1],
-        till: GeneralizedTime,
-        moment: Moment,
-        words: &[u8],
+        asking: &TicketRequest<'_>,
     ) -> Result<Vec<u8>, AllocError>
-        requires { AreEnoughForRequest words.now }
+        requires { AreEnoughForRequest asking.now.words.now }
         ensures { IfOk result (λ bytes.
-            AsksTgs self.now credential.now service.now till moment words.now bytes.items) }
+            AsksTgsOfSuites self.now suites.now credential.now service.now asking.now.till asking.now.moment asking.now.words.now bytes.items) }
     {
-        let nonce = nonce_of(words);
-        let body = self.tgs_body_bytes(alloc, service, till, nonce)?;
-        let confounder = confounder_at(credential.suite(), words, AUTHENTICATOR_CONFOUNDER);
-        let request = self.authenticated(alloc, credential, moment, confounder, &body)?;
-        let message = self.tgs_request_of(alloc, service, till, nonce, request)?;
+        let nonce = nonce_of(asking.words);
+        let body = self.tgs_body_bytes(alloc, suites, service, asking.till, nonce)?;
+        let confounder = confounder_at(credential.suite(), asking.words, AUTHENTICATOR_CONFOUNDER);
+        let request = self.authenticated(alloc, credential, asking.moment, confounder, &body)?;
+        let message = self.further_request(alloc, suites, service, asking.till, nonce, request)?;
         let bytes = tgs_request_bytes(alloc, message)?;
         Ok(bytes)
     }
@@ -93,13 +111,14 @@ impl Client {
     fn tgs_body_bytes(
         &self,
         alloc: Global,
+        suites: &[CipherSuite],
         service: &[GeneralStringAsn1],
         till: GeneralizedTime,
         nonce: u32,
     ) -> Result<Vec<u8>, AllocError>
-        ensures { IfOk result (λ bytes. bytes.items ≡ tgs_body_bytes self.now service.now till nonce) }
+        ensures { IfOk result (λ bytes. bytes.items ≡ body_bytes (further_body self.now suites.now service.now till nonce)) }
     {
-        let body = self.request_body(alloc, false, service, till, nonce)?;
+        let body = self.request_body(alloc, false, suites, service, till, nonce)?;
         let bytes = body_bytes(alloc, body)?;
         Ok(bytes)
     }
@@ -131,18 +150,19 @@ impl Client {
     }
 
     // The request with its AP request.
-    fn tgs_request_of(
+    fn further_request(
         &self,
         alloc: Global,
+        suites: &[CipherSuite],
         service: &[GeneralStringAsn1],
         till: GeneralizedTime,
         nonce: u32,
         request: Vec<u8>,
     ) -> Result<KdcReq, AllocError>
-        ensures { IfOk result (λ made. made ≡ tgs_request_of self.now service.now till nonce request.items) }
+        ensures { IfOk result (λ made. made ≡ further_request self.now suites.now service.now till nonce request.items) }
     {
         let pa_data = pa_data_of(alloc, PA_TGS_REQ, request);
-        let body = self.request_body(alloc, false, service, till, nonce);
+        let body = self.request_body(alloc, false, suites, service, till, nonce);
         let (pa_data, body) = both(pa_data, body)?;
         kdc_request_of(alloc, TGS_REQ_MSG_TYPE, pa_data, body)
     }

@@ -5,8 +5,8 @@ use Rattle.std.specs.List.{filter, list_any}
 use Rattle.std.specs.Option.{option_map_or}
 use Rattle.decision_tables.specs.Tables.{Table, done}
 use Rattle.picky_asn1.specs.Bytes.{Bytes}
-use Rattle.krb_accounts.specs.Names.{are_components, is_realm_name}
-use Rattle.krb_accounts.specs.Passwords.{password_salt}
+use Rattle.krb_realm_accounts.specs.Names.{are_components, is_realm_name}
+use Rattle.krb_realm_accounts.specs.Passwords.{password_salt}
 use Rattle.krb_crypto.specs.Sealing.{password_key_of}
 use Rattle.krb_crypto.specs.Suites.{cipher_number}
 use Rattle.krb_crypto.specs.declared.suite.CipherSuite.{CipherSuite}

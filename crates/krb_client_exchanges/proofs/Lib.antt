@@ -3,7 +3,6 @@ pub mod Salts
 pub mod Found
 pub mod Strengths
 pub mod MethodDataLemmas
-pub mod NamedClients
 pub mod Running
 pub mod Exchanging
 pub mod Told

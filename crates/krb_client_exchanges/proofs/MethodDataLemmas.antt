@@ -11,7 +11,7 @@ use Rattle.decision_tables.specs.Tables.{Table, done, need, refuse}
 use Rattle.picky_asn1.specs.Bytes.{Bytes}
 use Rattle.picky_asn1.specs.Integer.{integer_content}
 use Rattle.picky_asn1.specs.Numbers.{is_number}
-use Rattle.krb_accounts.specs.Account.{AccountRecord}
+use Rattle.krb_realm_accounts.specs.Account.{AccountRecord}
 use Rattle.krb_constants.specs.declared.error_codes.TheConstants.{KDC_ERR_PREAUTH_REQUIRED}
 use Rattle.krb_constants.specs.declared.padata_types.TheConstants.{PA_ETYPE_INFO2}
 use Rattle.krb_crypto.proofs.SealingLemmas.{same_suite}
@@ -20,7 +20,7 @@ use Rattle.krb_crypto.specs.declared.suite.CipherSuite.{CipherSuite}
 use Rattle.krb_messages.specs.Messages.{IsKrbError}
 use Rattle.krb_messages.specs.declared.messages.krb_error.KrbErrorInner.{KrbErrorInner}
 use Rattle.krb_tickets.specs.MethodData.{key_entry, key_info_bytes, key_info_tree, method_data, method_data_bytes, salt_of}
-use Rattle.krb_tickets.specs.Padata.{first_of, first_padata}
+use Rattle.krb_messages.specs.Padata.{first_of, first_padata}
 use Rattle.krb_messages.specs.declared.data_types.etype_info2.EtypeInfo2Entry.{EtypeInfo2Entry}
 use Rattle.krb_client_exchanges.specs.Hints.{Hinted, error_hint, first_entry, hint_by, hint_of_data, hint_of_entries, hint_of_info, suite_among}
 use Rattle.krb_client_exchanges.specs.Messages.{IsEtypeInfo2, IsMethodData}

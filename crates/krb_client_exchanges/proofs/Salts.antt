@@ -5,7 +5,7 @@ use Rattle.std.proofs.lemmas.Bool.{cases_Bool, eq-eqb}
 use Rattle.std.proofs.lemmas.Bool.Decides.{Decides-eqb}
 use Rattle.std.proofs.lemmas.Slice.Eq.{slice_eq-Decides}
 
--- what stands in front of both doesn't count
+-- what precedes both doesn't count
 pub same_front : (front a b : List ℕ) → pointwise nat_eq (front ++ a) (front ++ b) ≡ pointwise nat_eq a b
 same_front [] a b = refl
 same_front (x ∷ front) a b = rw (eq-eqb x x refl) (same_front front a b)

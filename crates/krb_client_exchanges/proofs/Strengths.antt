@@ -10,7 +10,7 @@ use Rattle.krb_constants.specs.declared.padata_types.TheConstants.{PA_ETYPE_INFO
 use Rattle.krb_crypto.specs.Suites.{cipher_number}
 use Rattle.krb_crypto.specs.declared.suite.CipherSuite.{CipherSuite}
 use Rattle.krb_messages.specs.Messages.{IsKrbError, sole_krb_error}
-use Rattle.krb_tickets.specs.Padata.{first_of}
+use Rattle.krb_messages.specs.Padata.{first_of}
 use Rattle.krb_messages.specs.declared.data_types.etype_info2.EtypeInfo2Entry.{EtypeInfo2Entry}
 use Rattle.krb_client_exchanges.specs.Hints.{Hinted, error_hint, first_entry, hint_by, hint_of_data, hint_of_entries, hint_of_error, hint_of_info, hint_of_methods, suite_among}
 use Rattle.krb_client_exchanges.specs.Messages.{IsEtypeInfo2, IsMethodData, sole_etype_info2, sole_method_data}

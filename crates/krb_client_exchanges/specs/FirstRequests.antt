@@ -1,28 +1,15 @@
 -- An AS request without padata (RFC 4120, sections 3.1.1, 5.4.1): its KDC replies at once, or says how the client authenticates itself.
-use Rattle.std.specs.Prelude.{ℕ, ℤ, Bool, true, List, None, map, pos}
+use Rattle.std.specs.Prelude.{List, None, pos}
 use Rattle.picky_asn1.specs.Bytes.{Bytes}
 use Rattle.asn1_leaves.specs.declared.date.GeneralizedTime.{GeneralizedTime}
 use Rattle.krb_constants.specs.declared.types.TheConstants.{AS_REQ_MSG_TYPE, KERBEROS_VERSION}
-use Rattle.krb_crypto.specs.Suites.{cipher_number}
 use Rattle.krb_crypto.specs.declared.suite.CipherSuite.{CipherSuite}
 use Rattle.krb_messages.specs.RandomBytes.{Random}
 use Rattle.krb_messages.specs.declared.messages.kdc_req.KdcReq.{KdcReq}
 use Rattle.krb_messages.specs.declared.messages.kdc_req_body.KdcReqBody.{KdcReqBody}
+use Rattle.krb_client.specs.AsRequest.{as_body_of_suites}
 use Rattle.krb_client.specs.Client.{ClientRecord}
 use Rattle.krb_client.specs.Messages.{as_request_bytes}
-use Rattle.krb_client.specs.Requests.{nonce_of, request_body}
-
--- The etypes of suites, in their order.
-abbrev pub etypes : List CipherSuite → List ℤ
-etypes suites = map (λ suite. pos (cipher_number suite)) suites
-
--- The body of the client's request, in which the client is named or not, with the etypes of the suites.
-abbrev pub listing_body : ClientRecord → Bool → List CipherSuite → List Bytes → GeneralizedTime → ℕ → KdcReqBody
-listing_body client named suites service till nonce = record (request_body client named service till nonce) { etype = record { 0 = etypes suites } }
-
--- The body is that of the client's AS request, and its etypes are those of the suites.
-abbrev pub first_body : ClientRecord → List CipherSuite → List Bytes → GeneralizedTime → Random → KdcReqBody
-first_body client suites service till words = listing_body client true suites service till (nonce_of words)
 
 -- An AS request with this body, and without padata.
 abbrev pub bare_request : KdcReqBody → KdcReq
@@ -33,6 +20,6 @@ bare_request body = record {
   req_body = record { 0 = body };
 }
 
--- The encoding of the client's first request.
+-- The encoding of the client's first request, which lists the suites.
 abbrev pub first_request_bytes : ClientRecord → List CipherSuite → List Bytes → GeneralizedTime → Random → Bytes
-first_request_bytes client suites service till words = as_request_bytes (bare_request (first_body client suites service till words))
+first_request_bytes client suites service till words = as_request_bytes (bare_request (as_body_of_suites client suites service till words))

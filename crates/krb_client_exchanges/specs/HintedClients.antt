@@ -6,8 +6,8 @@ use Rattle.picky_asn1.specs.Bytes.{Bytes}
 use Rattle.krb_crypto.specs.Sealing.{password_key_of}
 use Rattle.krb_crypto.specs.declared.suite.CipherSuite.{CipherSuite}
 use Rattle.krb_crypto.specs.declared.suite.CipherSuite.TheVariants.{Aes128CtsHmacSha196, Aes256CtsHmacSha196, Des3CbcSha1Kd, Aes128CtsHmacSha256128, Aes256CtsHmacSha384192}
-use Rattle.krb_accounts.specs.Names.{are_components, is_realm_name}
-use Rattle.krb_accounts.specs.Passwords.{password_salt}
+use Rattle.krb_realm_accounts.specs.Names.{are_components, is_realm_name}
+use Rattle.krb_realm_accounts.specs.Passwords.{password_salt}
 use Rattle.krb_client.specs.Client.{ClientRecord}
 use Rattle.krb_client.specs.declared.by_key.ByKey.{ByKey}
 use Rattle.krb_client_exchanges.specs.Suites.{is_one_of, suites_of}

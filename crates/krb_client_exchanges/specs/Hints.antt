@@ -17,7 +17,7 @@ use Rattle.krb_messages.specs.Messages.{IsAsRep, IsKrbError, sole_as_rep, sole_k
 use Rattle.krb_messages.specs.declared.messages.kdc_rep.KdcRep.{KdcRep}
 use Rattle.krb_messages.specs.declared.messages.krb_error.KrbErrorInner.{KrbErrorInner}
 use Rattle.krb_client.specs.Taking.{is_of_type}
-use Rattle.krb_tickets.specs.Padata.{first_of}
+use Rattle.krb_messages.specs.Padata.{first_of}
 use Rattle.krb_client_exchanges.specs.Messages.{IsEtypeInfo2, IsMethodData, sole_etype_info2, sole_method_data}
 use Rattle.krb_client_exchanges.specs.Parameters.{has_own_parameters}
 use Rattle.krb_client_exchanges.specs.declared.hint.KeyHint.{KeyHint}
@@ -94,7 +94,8 @@ error_hint suites bytes =
 -- 5.2.7.5).
 -- Test: `mit reply aes256`, `reply without padata`, `reply, entry of another suite`, `reply, other rounds`, `reply, damaged info` of
 -- `hints.txt`.
--- Not judged: that there is exactly one entry (RFC 4120, section 5.2.7.5). Test: `reply, two entries` of `hints.txt`.
+-- Not judged: that PA-ETYPE-INFO2 of an AS reply has exactly one entry (RFC 4120, section 5.2.7.5). Test: `reply, two entries` of
+-- `hints.txt`.
 abbrev pub hint_of_padata : CipherSuite → Option Bytes → Table Hinted
 hint_of_padata suite None = done (Ok (record { suite = suite; salt = None }))
 hint_of_padata suite (Some info) = hint_of_info (suite ∷ []) info

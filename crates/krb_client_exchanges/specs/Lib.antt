@@ -1,7 +1,6 @@
 pub mod Refusals
 pub mod Suites
 pub mod FirstRequests
-pub mod ListedRequests
 pub mod Parameters
 pub mod Messages
 pub mod Hints

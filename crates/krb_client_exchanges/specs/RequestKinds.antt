@@ -1,18 +1,17 @@
 -- The requests of a client, each as its occasion decides it (RFC 4120, sections 3.1.1, 3.3.1).
 use Rattle.std.specs.Prelude.{◌≡◌, false, List, Result, Ok, Err}
 use Rattle.picky_asn1.specs.Bytes.{Bytes}
-use Rattle.krb_accounts.specs.Names.{are_components}
+use Rattle.krb_realm_accounts.specs.Names.{are_components}
 use Rattle.krb_crypto.specs.declared.suite.CipherSuite.{CipherSuite}
 use Rattle.krb_messages.specs.TicketGranting.{krbtgt_of}
-use Rattle.krb_client.specs.AsRequest.{as_asked}
+use Rattle.krb_client.specs.AsRequest.{AsksAsOfSuites, as_asked, as_body_of_suites}
 use Rattle.krb_client.specs.Asked.{AsAskedRecord, TgsAskedRecord}
 use Rattle.krb_client.specs.Client.{ClientRecord, CredentialRecord}
 use Rattle.krb_client.specs.Means.{MeansRecord}
-use Rattle.krb_client.specs.TgsRequest.{tgs_asked}
+use Rattle.krb_client.specs.TgsRequest.{AsksTgsOfSuites, tgs_asked}
 use Rattle.krb_client.specs.declared.refusal.AskRefusal.{AskRefusal}
 use Rattle.krb_client.specs.declared.refusal.AskRefusal.TheVariants as ask_refusal
-use Rattle.krb_client_exchanges.specs.FirstRequests.{first_body, first_request_bytes}
-use Rattle.krb_client_exchanges.specs.ListedRequests.{AsksAsOfSuites, AsksTgsOfSuites}
+use Rattle.krb_client_exchanges.specs.FirstRequests.{first_request_bytes}
 use Rattle.krb_client_exchanges.specs.Courses.{Course, ◌>>=◌, began, ended, made, sent}
 use Rattle.krb_client_exchanges.specs.declared.occasion.Occasion.{Occasion}
 
@@ -47,7 +46,7 @@ abbrev pub as_request_by : ClientRecord → List CipherSuite → MeansRecord →
 as_request_by client suites means = record {
   asks = λ occasion octets. AsksAsOfSuites client suites means (krbtgt_of client.realm) occasion.till occasion.moment occasion.words octets;
   refuses = λ occasion refusal. (refusal ≡ ask_refusal.NoKeyFunction)
-      × means.refuses (first_body client suites (krbtgt_of client.realm) occasion.till occasion.words) occasion.moment occasion.words;
+      × means.refuses (as_body_of_suites client suites (krbtgt_of client.realm) occasion.till occasion.words) occasion.moment occasion.words;
   remembers = granting_asked client;
 }
 

@@ -2,8 +2,8 @@
 ghost use Rattle.std.specs.Prelude.{◌≡◌, nat_eq, Err, IfErr, IfOk};
 ghost use Rattle.std.specs.Cmp.Lexicographic.{pointwise};
 ghost use Rattle.std.specs.List.{flat_map};
-ghost use Rattle.krb_accounts.specs.Names.{AreComponents, IsRealmName, parts};
-ghost use Rattle.krb_accounts.specs.Passwords.{password_salt};
+ghost use Rattle.krb_realm_accounts.specs.Names.{parts};
+ghost use Rattle.krb_realm_accounts.specs.Passwords.{password_salt};
 ghost use Rattle.krb_crypto.specs.Sealing.{IsRefusedPassword, password_key_of};
 ghost use Rattle.krb_client_exchanges.specs.HintedClients.{client_by_hint, has_default_salt, has_no_key, is_keyless, salt_by, takes_salt, takes_suite};
 ghost use Rattle.krb_client_exchanges.specs.Refusals.{IsMemoryAside};
@@ -12,9 +12,9 @@ ghost use Rattle.krb_client_exchanges.specs.declared.refusal.HintedClientRefusal
 use crate::hint::KeyHint;
 use crate::refusal::HintedClientRefusal;
 use crate::wanted::{Wanted, is_one_of};
-use krb_accounts::{are_components, is_realm_name, password_salt};
 use krb_client::{ByKey, Client};
 use krb_crypto::{CipherSuite, Key};
+use krb_realm_accounts::{are_components, is_realm_name, password_salt};
 use std::alloc::{AllocError, Global};
 
 /// The client with this password, and its means. Its suite is the hint's, and its key is that of the password and the hint's salt, or of the
@@ -52,7 +52,7 @@ pub fn client_by_hint(
         return Err(HintedClientRefusal::NoKey);
     }
     let key = key_by(alloc, realm, name, password, hint)?;
-    let client = client_named(alloc, realm, name, hint.suite)?;
+    let client = Client::named(alloc, realm, name, hint.suite)?;
     Ok((client, ByKey { key }))
 }
 
@@ -105,23 +105,6 @@ fn are_joined(octets: &[u8], name: &[Vec<u8>]) -> bool
         }
     }
     rest.is_empty()
-}
-
-// The client of names that are names. Fails only if memory runs out.
-fn client_named(
-    alloc: Global,
-    realm: &[u8],
-    name: &[Vec<u8>],
-    suite: CipherSuite,
-) -> Result<Client, AllocError>
-    requires realm { IsRealmName realm.now }
-    requires name { AreComponents (parts name.now) }
-    ensures { IfOk result (λ client. client ≡ record { realm = realm.now; components = parts name.now; suite = suite }) }
-{
-    let Ok(client) = Client::new(alloc, realm, name, suite) else {
-        return Err(AllocError);
-    };
-    Ok(client)
 }
 
 // The key of the password by the hint, where there is one. Fails only if memory runs out.

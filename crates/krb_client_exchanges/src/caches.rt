@@ -3,9 +3,9 @@ ghost use Rattle.std.specs.Prelude.{◌≡◌, ◌∷◌, IfOk, map};
 ghost use Rattle.krb_client_exchanges.specs.LoginCaches.{cached_credential, login_cache};
 
 use crate::credentials::{cached_of, client_principal};
-use decision_tables::both;
 use krb_client::{Client, Credential};
 use krb_file_formats::{CachedCredential, CredentialCache};
+use picky_asn1_der::both;
 use std::alloc::{AllocError, Global};
 
 /// The cache of a client, with its ticket-granting ticket and its service tickets. Fails only if memory runs out.

@@ -2,14 +2,13 @@
 ghost use Rattle.std.specs.Prelude.{◌≡◌, IfOk};
 ghost use Rattle.krb_client_exchanges.specs.LoginCaches.{cached_credential, cached_key, cached_times, client_principal, flags_number, service_principal, ticket_bytes};
 
-use decision_tables::both;
 use krb_client::{Client, Credential};
 use krb_constants::types::{NT_PRINCIPAL, NT_SRV_INST, TICKET_TYPE};
 use krb_file_formats::{CachePrincipal, CachedCredential, CredentialTimes, TypedOctets, u32_be};
 use krb_messages::data_types::{KerberosFlags, Ticket, TicketInner};
 use krb_time::seconds_since_epoch;
 use picky_asn1::wrapper::GeneralStringAsn1;
-use picky_asn1_der::tagged_encoding;
+use picky_asn1_der::{both, tagged_encoding};
 use std::alloc::{AllocError, Global};
 
 /// What a client was granted, as a cache has it.

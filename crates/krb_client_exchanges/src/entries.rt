@@ -5,7 +5,7 @@ ghost use Rattle.krb_client_exchanges.specs.Hints.{first_entry, suite_among};
 
 use krb_crypto::CipherSuite;
 use krb_messages::data_types::EtypeInfo2Entry;
-use picky_asn1::is_number;
+use krb_messages::is_number;
 use picky_asn1::wrapper::IntegerAsn1;
 
 /// The first entry whose etype is one of the suites.

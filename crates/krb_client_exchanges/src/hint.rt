@@ -14,8 +14,7 @@ use krb_constants::types::{AS_REP_MSG_TYPE, KERBEROS_VERSION};
 use krb_crypto::CipherSuite;
 use krb_messages::data_types::{EtypeInfo2Entry, PaData};
 use krb_messages::messages::{KdcRep, KrbErrorInner};
-use krb_tickets::first_of;
-use picky_asn1::is_number;
+use krb_messages::{first_of, is_number};
 use picky_asn1::wrapper::{GeneralStringAsn1, OctetStringAsn1};
 use std::alloc::{AllocError, Global};
 
@@ -163,7 +162,7 @@ fn suite_in_reply(suites: &[CipherSuite], reply: &KdcRep) -> Result<CipherSuite,
 }
 
 // The first PA-ETYPE-INFO2 of a reply's padata.
-#[tactic(auto, unfolding(krb_tickets::specs::Padata::first_of, krb_tickets::specs::Padata::first_padata))]
+#[tactic(auto, unfolding(krb_messages::specs::Padata::first_of, krb_messages::specs::Padata::first_padata))]
 fn info_in(reply: &KdcRep) -> Option<&OctetStringAsn1>
     ensures { option_copied result ≡ info_in reply.now }
 {

@@ -1,7 +1,7 @@
 //! What no KDC can do, whatever it answers, and that a realm of this stack is read as it writes. The functions do nothing when they run:
 //! their contracts are the laws.
-ghost use Rattle.krb_accounts.specs.Account.{AccountRecord};
-ghost use Rattle.krb_accounts.specs.Passwords.{password_salt};
+ghost use Rattle.krb_realm_accounts.specs.Account.{AccountRecord};
+ghost use Rattle.krb_realm_accounts.specs.Passwords.{password_salt};
 ghost use Rattle.krb_client.specs.Client.{ClientRecord, CredentialRecord};
 ghost use Rattle.krb_client.specs.declared.by_key.ByKey.{ByKey};
 ghost use Rattle.krb_client_exchanges.specs.AnswerHints.{hint_in_answer};

@@ -1,6 +1,6 @@
 //! The names of a client and of its realm's ticket-granting service.
 ghost use Rattle.std.specs.Prelude.{◌≡◌, IfOk};
-ghost use Rattle.krb_accounts.specs.Names.{AreComponents, IsRealmName, parts};
+ghost use Rattle.krb_realm_accounts.specs.Names.{parts};
 ghost use Rattle.krb_messages.specs.TicketGranting.{krbtgt_of};
 
 use krb_client::Client;
@@ -40,22 +40,5 @@ pub(crate) fn client_with(
 {
     client.is_well_formed();
     let name = name_of(alloc, client)?;
-    named(alloc, client.realm().as_bytes(), &name, suite)
-}
-
-// The client of names that are names. Fails only if memory runs out.
-fn named(
-    alloc: Global,
-    realm: &[u8],
-    name: &[Vec<u8>],
-    suite: CipherSuite,
-) -> Result<Client, AllocError>
-    requires realm { IsRealmName realm.now }
-    requires name { AreComponents (parts name.now) }
-    ensures { IfOk result (λ client. client ≡ record { realm = realm.now; components = parts name.now; suite = suite }) }
-{
-    let Ok(client) = Client::new(alloc, realm, name, suite) else {
-        return Err(AllocError);
-    };
-    Ok(client)
+    Client::named(alloc, client.realm().as_bytes(), &name, suite)
 }

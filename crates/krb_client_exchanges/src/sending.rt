@@ -1,17 +1,17 @@
 //! Requests that are made and sent.
 ghost use Rattle.std.specs.Prelude.{◌≡◌, IfOk};
-ghost use Rattle.krb_accounts.specs.Names.{parts};
+ghost use Rattle.krb_realm_accounts.specs.Names.{parts};
 ghost use Rattle.krb_messages.specs.RandomBytes.{AreEnoughForRequest};
 ghost use Rattle.krb_client_exchanges.specs.Courses.{Runs, began};
 ghost use Rattle.krb_client_exchanges.specs.RequestKinds.{IsMadeAt, as_request_by, exchange, first_as_request, tgs_request_by};
 ghost use Rattle.krb_client_exchanges.specs.Taking.{not_asked, octets_first, octets_last, posted};
 
+use crate::asking::first_request;
 use crate::fault::{ExchangeFault, LoginRefusal};
 use crate::kdc::Kdc;
 use crate::names::granting_service;
 use crate::occasion::Occasion;
-use crate::{as_request_of_suites, first_request, tgs_request_of_suites};
-use krb_client::{AsAsked, AskRefusal, Client, Credential, Means, TgsAsked};
+use krb_client::{AsAsked, AskRefusal, Client, Credential, Means, TgsAsked, TicketRequest};
 use krb_crypto::CipherSuite;
 use std::alloc::Global;
 
@@ -114,15 +114,13 @@ fn first_at(
 {
     client.is_well_formed();
     let service = granting_service(alloc, client)?;
-    first_request(
-        alloc,
-        client,
-        suites,
-        &service,
-        occasion.till,
-        occasion.moment,
-        &occasion.words,
-    )
+    let request = TicketRequest {
+        service: &service,
+        till: occasion.till,
+        moment: occasion.moment,
+        words: &occasion.words,
+    };
+    first_request(alloc, client, suites, &request)
 }
 
 // The request by the means at an occasion.
@@ -138,16 +136,13 @@ fn by_means_at<M: Means>(
 {
     client.is_well_formed();
     let service = granting_service(alloc, client)?;
-    as_request_of_suites(
-        alloc,
-        client,
-        suites,
-        means,
-        &service,
-        occasion.till,
-        occasion.moment,
-        &occasion.words,
-    )
+    let request = TicketRequest {
+        service: &service,
+        till: occasion.till,
+        moment: occasion.moment,
+        words: &occasion.words,
+    };
+    client.as_request_of_suites(alloc, means, suites, &request)
 }
 
 // The request by a credential at an occasion.
@@ -162,14 +157,11 @@ fn by_ticket_at(
     requires { AreEnoughForRequest occasion.now.words }
     ensures { IsMadeAt (tgs_request_by client.now suites.now credential.now (parts service.now)) occasion.now (octets_first result) }
 {
-    tgs_request_of_suites(
-        alloc,
-        client,
-        suites,
-        credential,
+    let request = TicketRequest {
         service,
-        occasion.till,
-        occasion.moment,
-        &occasion.words,
-    )
+        till: occasion.till,
+        moment: occasion.moment,
+        words: &occasion.words,
+    };
+    client.tgs_request_of_suites(alloc, credential, suites, &request)
 }

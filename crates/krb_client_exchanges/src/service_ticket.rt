@@ -1,5 +1,5 @@
 //! Tickets for services.
-ghost use Rattle.krb_accounts.specs.Names.{parts};
+ghost use Rattle.krb_realm_accounts.specs.Names.{parts};
 ghost use Rattle.krb_client_exchanges.specs.Suites.{suites_of};
 ghost use Rattle.krb_client_exchanges.specs.Courses.{Runs};
 ghost use Rattle.krb_client_exchanges.specs.Logins.{ticket_for};

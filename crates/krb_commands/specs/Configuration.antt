@@ -27,7 +27,7 @@ abbrev pub realm_in : Text → Text → Option Text
 realm_in name value =
     if (length (trim value) == 0) || not (pointwise nat_eq (trim name) (codes "default_realm")) then None else Some (trim value)
 
--- The realm that a line names: its name is in front of the first `=` (61), and its value behind it.
+-- The realm that a line names: its name is in front of the first `=` (61), and its value after it.
 abbrev pub realm_of : Text → Option Text
 realm_of line = realm_in (before_first (λ octet. octet == 61) line) (after_first (λ octet. octet == 61) line)
 

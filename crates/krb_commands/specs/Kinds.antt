@@ -41,7 +41,7 @@ are_joined (suc count) place start front =
 unfoldable pub all_joined : ℕ → List ℕ → Bool
 all_joined start front = are_joined TABLES 0 start front
 
--- The front of a database: the header of a constant database. Its first hash table stands behind the header.
+-- The front of a database: the header of a constant database. Its first hash table follows the header.
 abbrev pub is_header : List ℕ → Bool
 is_header front = not (nat_lt (le32_at 0 front) HEADER_SIZE) && all_joined (le32_at 0 front) front
 

@@ -9,10 +9,10 @@ use std::random::RandomSource;
 /// How many symbolic links are followed, as Linux does.
 const LINK_LIMIT: usize = 40;
 
-/// How many random letters the name of a new file has.
+/// How many random characters the name of a new file has.
 const LETTERS: usize = 8;
 
-/// The letters. Their count divides 256, so that each is as likely.
+/// The characters, a to z and 2 to 7. Their count divides 256, so that each is as likely.
 const ALPHABET: &[u8; 32] = b"abcdefghijklmnopqrstuvwxyz234567";
 
 /// The path that a path names: itself, or what its symbolic links lead to, which need not be there.
@@ -73,7 +73,7 @@ pub(crate) fn folder_of(path: &str) -> &str {
     }
 }
 
-/// A path in the same folder that nobody else is likely to have: `.NAME.LETTERS.new`, with random letters.
+/// A path in the same folder that nobody else is likely to have: `.NAME.CHARACTERS.new`, with random characters.
 pub(crate) fn new_path_beside(rt: &HostRuntime, place: &str) -> Result<String, Stop> {
     let mut octets = [0; LETTERS];
     if let Err(fault) = rt.fill_bytes(&mut octets) {

@@ -6,3 +6,4 @@ pub mod Progress
 pub mod Tolerating
 pub mod Turns
 pub mod WholeOutput
+pub mod OneMoment

@@ -1,28 +1,35 @@
 -- A reply by the few is a reply by all.
-use Rattle.std.proofs.Common.{◌≡◌, ℕ, List, Option, None, Some, refl, sym, ap, subst, inl, inr, ◌∙◌}
-use Rattle.krb_accounts.specs.Accounts.{AccountMap, Look, look_in}
+use Rattle.std.proofs.Common.{◌≡◌, ℕ, List, Option, None, Some, Result, Ok, Err, refl, sym, ap, subst, inl, inr, ◌∙◌}
+use Rattle.std.specs.Prelude.{Vec}
+use Rattle.std.specs.Global.{Global}
+use Rattle.krb_realm_accounts.specs.Accounts.{AccountMap, Look, look_in}
 use Rattle.krb_messages.specs.declared.messages.kdc_req.KdcReq.{KdcReq}
-use Rattle.krb_messages.specs.Messages.{IsAsReq, IsTgsReq, sole_tgs_req}
+use Rattle.krb_messages.specs.Messages.{IsAsReq, IsTgsReq}
 use Rattle.krb_kdc_exchanges.specs.Call.{CallRecord}
-use Rattle.krb_kdc_exchanges.specs.Requests.{account_of, body_of, client_of, padata_in, service_of}
+use Rattle.krb_kdc_exchanges.specs.Requests.{account_of, body_of, client_of, service_of}
+use Rattle.krb_messages.specs.Padata.{padata_in}
 use Rattle.krb_kdc_exchanges.specs.Rows.{PkinitRows}
 use Rattle.krb_messages.specs.TicketGranting.{krbtgt_of}
-use Rattle.krb_kdc_exchanges.specs.Involved.{IsInvolved, IsOfInvolvedAlone}
 use Rattle.krb_kdc_exchanges.specs.Replies.{Replies, as_reply, tgs_reply}
 use Rattle.krb_kdc_exchanges.specs.ByTicket.{IsInvolvedFurther}
+use Rattle.krb_kdc_exchanges.proofs.TgsInvolved.{same_further}
 use Rattle.krb_messages.specs.Names.{components}
 use Rattle.krb_messages.specs.declared.data_types.principal_name.PrincipalName.{PrincipalName}
 use Rattle.krb_kdc.specs.declared.call.LookupCall.{LookupCall}
+use Rattle.krb_kdc.specs.declared.fault.LookupRefusal.{LookupRefusal}
+use Rattle.krb_kdc.specs.declared.fault.LookupRefusal.TheVariants.{Unreadable, Fault}
+use Rattle.krb_kdc.specs.Answers.{IsAnswerBy}
 use Rattle.krb_kdc.specs.Calls.{call_with}
 use Rattle.krb_kdc.specs.Few.{Knows}
 use Rattle.krb_kdc.specs.Involved.{KnowsFurther, KnowsNamed}
+use Rattle.krb_kdc.specs.Sources.{RepliesBy, as_reply_by}
 use Rattle.krb_kdc.specs.Tickets.{IsTicketOf}
 
 named_account : (all : Look) (few : AccountMap) (name : Option PrincipalName) → KnowsNamed all few name → account_of (look_in few) name ≡ account_of all name
 named_account all few None knows = refl
 named_account all few (Some name) knows = knows
 
-module _ (given : LookupCall) (all : Look) (few : AccountMap) (rows : PkinitRows) (message : List ℕ) where
+module _ (given : LookupCall) (all : Look) (few : AccountMap) where
   abbrev small : CallRecord
   small = call_with given (look_in few)
 
@@ -30,20 +37,13 @@ module _ (given : LookupCall) (all : Look) (few : AccountMap) (rows : PkinitRows
   whole = call_with given all
 
   -- an AS request
-  pub as_replied : (own : CallRecord) → own ≡ small → (reply : List ℕ) (asked : KdcReq) → IsAsReq message asked
+  pub as_replied : (rows : PkinitRows) (own : CallRecord) → own ≡ small → (reply : List ℕ) (asked : KdcReq)
       → KnowsNamed all few (client_of (body_of asked)) → KnowsNamed all few (service_of (body_of asked))
-      → (as_reply own rows (account_of own.look (client_of (body_of asked))) (account_of own.look (service_of (body_of asked))) asked).gives (Some reply)
-      → Replies whole rows message (Some reply)
-  unfolding Replies
-  as_replied own same reply asked found client service x =
-      let own_reply : (as_reply small rows (account_of (look_in few) (client_of (body_of asked))) (account_of (look_in few) (service_of (body_of asked))) asked).gives (Some reply)
-      = subst (λ call. (as_reply call rows (account_of call.look (client_of (body_of asked))) (account_of call.look (service_of (body_of asked))) asked).gives (Some reply)) same x in
-      inl (
-        asked,
-        found,
-        subst (λ s. (as_reply small rows (account_of all (client_of (body_of asked))) s asked).gives (Some reply)) (named_account all few (service_of (body_of asked)) service)
-            (subst (λ c. (as_reply small rows c (account_of (look_in few) (service_of (body_of asked))) asked).gives (Some reply)) (named_account all few (client_of (body_of asked)) client) own_reply),
-      )
+      → (as_reply_by own rows asked).gives (Some reply) → (as_reply_by whole rows asked).gives (Some reply)
+  as_replied rows own same reply asked client service x =
+      let own_reply : (as_reply_by small rows asked).gives (Some reply) = subst (λ call. (as_reply_by call rows asked).gives (Some reply)) same x in
+      subst (λ s. (as_reply small rows (account_of all (client_of (body_of asked))) s asked).gives (Some reply)) (named_account all few (service_of (body_of asked)) service)
+      (subst (λ c. (as_reply small rows c (account_of (look_in few) (service_of (body_of asked))) asked).gives (Some reply)) (named_account all few (client_of (body_of asked)) client) own_reply)
 
   -- a TGS request: the few have the accounts that it involves
   knows_further : (asked : KdcReq) → KnowsFurther all few (krbtgt_of given.realm.now) asked → (these : List (List ℕ)) → IsInvolvedFurther small asked these → look_in few these ≡ all these
@@ -56,21 +56,40 @@ module _ (given : LookupCall) (all : Look) (few : AccountMap) (rows : PkinitRows
       record { value = by.value; ap_req = ap_req; account = by.granting; first = by.first; read = by.read; has = by.account; opens = by.opens } in
       ap (look_in few) is ∙ knows.client part ticket ∙ sym (ap all is)
 
-  knows_involved : (asked : KdcReq) → ((other : KdcReq) → IsAsReq message other → ⊥) → IsTgsReq message asked → KnowsFurther all few (krbtgt_of given.realm.now) asked
-      → (these : List (List ℕ)) → IsInvolved small message these → look_in few these ≡ all these
-  knows_involved asked none found knows these (inl (other, read, named)) = absurd (none other read)
-  knows_involved asked none found knows these (inr (other, read, further)) =
-      knows_further asked knows these (subst (λ request. IsInvolvedFurther small request these) (sole_tgs_req message other asked read found) further)
+  further_replied : (asked : KdcReq) → KnowsFurther all few (krbtgt_of given.realm.now) asked → (reply : Option (List ℕ)) → (tgs_reply small asked).gives reply
+      → (tgs_reply whole asked).gives reply
+  further_replied asked knows reply (Ok bytes, judged, told) = (Ok bytes, same_further small all asked (knows_further asked knows) (Ok bytes) judged, told)
+  further_replied asked knows reply (Err code, judged, told) = (Err code, same_further small all asked (knows_further asked knows) (Err code) judged, told)
 
-  pub tgs_replied : IsOfInvolvedAlone rows → (own : CallRecord) → own ≡ small → (reply : List ℕ) (asked : KdcReq) → ((other : KdcReq) → IsAsReq message other → ⊥) → IsTgsReq message asked
-      → KnowsFurther all few (krbtgt_of given.realm.now) asked → (tgs_reply own asked).gives (Some reply) → Replies whole rows message (Some reply)
+  pub tgs_replied : (own : CallRecord) → own ≡ small → (reply : List ℕ) (asked : KdcReq) → KnowsFurther all few (krbtgt_of given.realm.now) asked
+      → (tgs_reply own asked).gives (Some reply) → (tgs_reply whole asked).gives (Some reply)
+  tgs_replied own same reply asked knows x = further_replied asked knows (Some reply) (subst (λ call. (tgs_reply call asked).gives (Some reply)) same x)
+
+-- the reply to the message, by what is given for the request that it is
+module _ {P : Type 0} (rows : P → PkinitRows) (gives : KdcReq → P → Type 0) (call : CallRecord) (message : List ℕ) where
+  pub by_given : (asked : KdcReq) (reply : List ℕ) → IsAsReq message asked → (pkinit : P) × gives asked pkinit × (as_reply_by call (rows pkinit) asked).gives (Some reply)
+      → RepliesBy rows gives call message (Some reply)
   unfolding Replies
-  tgs_replied law own same reply asked none found knows x =
-      let own_reply : Replies small rows message (Some reply) = subst (λ call. Replies call rows message (Some reply)) same (inr (none, inl (asked, found, x))) in
-      law small all message (knows_involved asked none found knows) (Some reply) own_reply
+  by_given asked reply read (pkinit, is, x) = inl (asked, read, (pkinit, is, inl (asked, read, x)))
 
--- no request
-pub unread : (call : CallRecord) (rows : PkinitRows) (message : List ℕ) → ((other : KdcReq) → IsAsReq message other → ⊥) → ((other : KdcReq) → IsTgsReq message other → ⊥)
-    → Replies call rows message None
-unfolding Replies
-unread call rows message none neither = inr (none, inr (neither, refl))
+  pub by_tgs : (asked : KdcReq) (reply : List ℕ) → ((other : KdcReq) → IsAsReq message other → ⊥) → IsTgsReq message asked → (tgs_reply call asked).gives (Some reply)
+      → RepliesBy rows gives call message (Some reply)
+  by_tgs asked reply none read x = inr (none, inl (asked, read, x))
+
+  pub unread : ((other : KdcReq) → IsAsReq message other → ⊥) → ((other : KdcReq) → IsTgsReq message other → ⊥) → RepliesBy rows gives call message None
+  unread none neither = inr (none, inr (neither, refl))
+
+-- the reply where the same is given for each request
+module _ {P : Type 0} (rows : P → PkinitRows) (own : P) (call : CallRecord) (message : List ℕ) where
+  abbrev same : KdcReq → P → Type 0
+  same request given = given ≡ own
+
+  by_own : (reply : Option (List ℕ)) → RepliesBy rows same call message reply → Replies call (rows own) message reply
+  unfolding Replies
+  by_own reply (inl (request, read, (given, is, x))) = subst (λ (p : P). Replies call (rows p) message reply) is x
+  by_own reply (inr (none, further)) = inr (none, further)
+
+  pub always : (result : Result (Vec ℕ Global) LookupRefusal) → IsAnswerBy (RepliesBy rows same call message) result → IsAnswerBy (Replies call (rows own) message) result
+  always (Ok reply) is = by_own (Some reply.items) is
+  always (Err Unreadable) is = by_own None is
+  always (Err (Fault fault)) is = tt

@@ -6,14 +6,17 @@ use Rattle.std.specs.Ordering.{eq_by_cmp, is_eq}
 use Rattle.std.specs.declared.cmp.Ordering.{Ordering}
 use Rattle.std.specs.declared.cmp.Ordering.TheVariants.{Less, Equal, Greater}
 use Rattle.picky_asn1.specs.Bytes.{Bytes}
-use Rattle.krb_accounts.specs.Account.{AccountRecord}
-use Rattle.krb_accounts.specs.Accounts.{AccountMap, Look, look_in, name_apart, name_cmp, name_total}
+use Rattle.picky_asn1_der.specs.Found.{IsFound}
+use Rattle.krb_realm_accounts.specs.Account.{AccountRecord}
+use Rattle.krb_realm_accounts.specs.Accounts.{AccountMap, Look, look_in, name_apart, name_cmp, name_total}
 use Rattle.krb_messages.specs.Names.{components}
 use Rattle.krb_messages.specs.declared.data_types.principal_name.PrincipalName.{PrincipalName}
 use Rattle.krb_kdc.specs.Few.{AreOf, IsFetched, Knows}
-use Rattle.krb_kdc_exchanges.specs.Requests.{body_of, padata_in, service_of}
+use Rattle.krb_kdc_exchanges.specs.Requests.{body_of, service_of}
+use Rattle.krb_messages.specs.Padata.{padata_in}
 use Rattle.krb_messages.specs.declared.messages.kdc_req.KdcReq.{KdcReq}
 use Rattle.krb_messages.specs.declared.data_types.enc_ticket_part.EncTicketPartInner.{EncTicketPartInner}
+use Rattle.krb_messages.specs.declared.data_types.pa_data.PaData.{PaData}
 use Rattle.krb_kdc.specs.Involved.{IsNamedFetched, KnowsFurther, KnowsNamed}
 use Rattle.krb_kdc.specs.Tickets.{IsClientFetched, IsTicketOf}
 
@@ -131,3 +134,29 @@ pub further_by : (all : Look) (none first second third : AccountMap) (a b tgs : 
 further_by all none first second third a b tgs given request is same_a same_b same one two three =
     further all none first second third tgs given request is same (subst (λ n. IsFetched all n none first) same_a one)
     (subst (λ n. IsClientFetched all n (padata_in request) first second) same_b two) three
+
+-- the ticket that a TGS request presents, by the accounts as they are in the end
+module _ (few other : AccountMap) (tgs : List Bytes) (padata : List PaData) (same : look_in few tgs ≡ look_in other tgs) where
+  moved : (part : EncTicketPartInner) → IsTicketOf few tgs padata part → IsTicketOf other tgs padata part
+  moved part ticket = record {
+    value = ticket.value;
+    ap_req = ticket.ap_req;
+    account = ticket.account;
+    first = ticket.first;
+    read = ticket.read;
+    has = sym same ∙ ticket.has;
+    opens = ticket.opens;
+  }
+
+found_moved : (few other : AccountMap) (tgs : List Bytes) (padata : List PaData) → look_in few tgs ≡ look_in other tgs → (ticket : Option EncTicketPartInner)
+    → IsFound (IsTicketOf few tgs padata) ticket → IsFound (IsTicketOf other tgs padata) ticket
+found_moved few other tgs padata same None found = λ part ticket. found part (moved other few tgs padata (sym same) part ticket)
+found_moved few other tgs padata same (Some part) found = moved few other tgs padata same part found
+
+pub ticket_by : (all : Look) (none first second third : AccountMap) (a b tgs : List Bytes) (given : Option PrincipalName) (padata : List PaData) (ticket : Option EncTicketPartInner)
+    → none ≡ empty → a ≡ tgs → b ≡ tgs → IsFetched all a none first → IsClientFetched all b padata first second → IsNamedFetched all given second third
+    → IsFound (IsTicketOf first b padata) ticket → IsFound (IsTicketOf third tgs padata) ticket
+ticket_by all none first second third a b tgs given padata ticket is same_a same_b one two three found =
+    let early : Knows all first tgs = subst (Knows all first) same_a (one.known (none_own all none is)) in
+    let late : Knows all third tgs = three.kept tgs (two.kept tgs early) in
+    found_moved first third tgs padata (early ∙ sym late) ticket (subst (λ n. IsFound (IsTicketOf first n padata) ticket) same_b found)

@@ -3,3 +3,4 @@ mod Refused
 mod Fetched
 mod Opened
 mod Answered
+mod Told

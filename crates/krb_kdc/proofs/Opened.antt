@@ -1,7 +1,7 @@
 -- Tickets that an account's key opens.
 use Rattle.std.proofs.Common.{◌≡◌, ℕ, List, Option, None, Some, Result, Ok, Err, IfOk, sym, subst, inl, inr}
-use Rattle.krb_accounts.specs.Account.{AccountRecord}
-use Rattle.krb_accounts.specs.Accounts.{AccountMap, Look, look_in}
+use Rattle.krb_realm_accounts.specs.Account.{AccountRecord}
+use Rattle.krb_realm_accounts.specs.Accounts.{AccountMap, Look, look_in}
 use Rattle.krb_ap_requests.specs.ApTable.{enc_part_in, opened_part}
 use Rattle.krb_ap_requests.specs.Messages.{IsTicketPart, sole_ticket_part}
 use Rattle.krb_crypto.specs.Keys.{KeyRecord}
@@ -9,7 +9,7 @@ use Rattle.krb_crypto.specs.declared.suite.CipherSuite.{CipherSuite}
 use Rattle.picky_asn1_der.specs.Found.{IsFound}
 use Rattle.krb_messages.specs.Messages.{IsApReq, sole_ap_req}
 use Rattle.krb_messages.specs.declared.messages.ap_req.ApReqInner.{ApReqInner}
-use Rattle.krb_tickets.specs.Padata.{first_of}
+use Rattle.krb_messages.specs.Padata.{first_of}
 use Rattle.krb_messages.specs.declared.data_types.enc_ticket_part.EncTicketPartInner.{EncTicketPartInner}
 use Rattle.krb_messages.specs.declared.data_types.encrypted_data.EncryptedData.{EncryptedData}
 use Rattle.krb_messages.specs.declared.data_types.pa_data.PaData.{PaData}

@@ -1,5 +1,5 @@
 -- A call to a realm whose accounts are looked up.
-use Rattle.krb_accounts.specs.Accounts.{Look}
+use Rattle.krb_realm_accounts.specs.Accounts.{Look}
 use Rattle.krb_kdc_exchanges.specs.Call.{CallRecord}
 use Rattle.krb_kdc.specs.declared.call.LookupCall as held
 

@@ -1,8 +1,8 @@
 -- The few accounts that were looked up, beside all that there are.
 use Rattle.std.specs.Prelude.{◌≡◌, List, Some}
 use Rattle.picky_asn1.specs.Bytes.{Bytes}
-use Rattle.krb_accounts.specs.Account.{AccountRecord}
-use Rattle.krb_accounts.specs.Accounts.{AccountMap, Look, look_in}
+use Rattle.krb_realm_accounts.specs.Account.{AccountRecord}
+use Rattle.krb_realm_accounts.specs.Accounts.{AccountMap, Look, look_in}
 
 -- Each of the few is the name's own account.
 abbrev pub AreOf : Look → AccountMap → Type 0

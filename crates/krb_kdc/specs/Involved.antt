@@ -1,8 +1,9 @@
 -- The accounts that a request involves, among the few.
 use Rattle.std.specs.Prelude.{List, Option, None, Some}
 use Rattle.picky_asn1.specs.Bytes.{Bytes}
-use Rattle.krb_accounts.specs.Accounts.{AccountMap, Look}
-use Rattle.krb_kdc_exchanges.specs.Requests.{body_of, padata_in, service_of}
+use Rattle.krb_realm_accounts.specs.Accounts.{AccountMap, Look}
+use Rattle.krb_kdc_exchanges.specs.Requests.{body_of, service_of}
+use Rattle.krb_messages.specs.Padata.{padata_in}
 use Rattle.krb_messages.specs.declared.messages.kdc_req.KdcReq.{KdcReq}
 use Rattle.krb_messages.specs.Names.{components}
 use Rattle.krb_messages.specs.declared.data_types.enc_ticket_part.EncTicketPartInner.{EncTicketPartInner}

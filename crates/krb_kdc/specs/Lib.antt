@@ -5,3 +5,5 @@ pub mod Answers
 pub mod Calls
 pub mod Tickets
 pub mod Involved
+pub mod Sources
+pub mod Seen

@@ -1,14 +1,14 @@
 -- The ticket that a TGS request comes with.
 use Rattle.std.specs.Prelude.{◌≡◌, List, Some}
 use Rattle.picky_asn1.specs.Bytes.{Bytes}
-use Rattle.krb_accounts.specs.Account.{AccountRecord}
-use Rattle.krb_accounts.specs.Accounts.{AccountMap, Look, look_in}
+use Rattle.krb_realm_accounts.specs.Account.{AccountRecord}
+use Rattle.krb_realm_accounts.specs.Accounts.{AccountMap, Look, look_in}
 use Rattle.krb_ap_requests.specs.ApTable.{enc_part_in}
 use Rattle.krb_ap_requests.specs.Messages.{IsTicketPart}
 use Rattle.krb_constants.specs.declared.padata_types.TheConstants.{PA_TGS_REQ}
 use Rattle.krb_messages.specs.Messages.{IsApReq}
 use Rattle.krb_messages.specs.declared.messages.ap_req.ApReqInner.{ApReqInner}
-use Rattle.krb_tickets.specs.Padata.{first_of}
+use Rattle.krb_messages.specs.Padata.{first_of}
 use Rattle.krb_messages.specs.Names.{components}
 use Rattle.krb_messages.specs.declared.data_types.enc_ticket_part.EncTicketPartInner.{EncTicketPartInner}
 use Rattle.krb_messages.specs.declared.data_types.pa_data.PaData.{PaData}

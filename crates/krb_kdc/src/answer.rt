@@ -1,30 +1,40 @@
 //! Answers from accounts that are looked up.
-ghost use Rattle.std.specs.Prelude.{IfErr, IfOk, OnOk};
+ghost use Rattle.std.specs.Prelude.{◌⊎◌, Some, IfErr, IfOk, OnOk};
 ghost use Rattle.std.specs.Option.{option_copied};
 ghost use Rattle.krb_messages.specs.RandomBytes.{AreEnoughForReply};
-ghost use Rattle.krb_accounts.specs.Accounts.{Look};
+ghost use Rattle.krb_realm_accounts.specs.Accounts.{Look};
 ghost use Rattle.krb_kdc_exchanges.specs.Requests.{body_of, client_of, service_of};
+ghost use Rattle.krb_messages.specs.Padata.{padata_in};
+ghost use Rattle.krb_messages.specs.Messages.{IsAsReq, IsTgsReq};
+ghost use Rattle.picky_asn1.specs.Bytes.{Bytes};
+ghost use Rattle.picky_asn1_der.specs.Found.{IsFound};
 ghost use Rattle.krb_messages.specs.TicketGranting.{krbtgt_of};
-ghost use Rattle.krb_kdc_exchanges.specs.Replies.{Replies};
+ghost use Rattle.krb_kdc_exchanges.specs.Replies.{Replies, tgs_reply};
 ghost use Rattle.krb_kdc.specs.Answers.{IsAnswerBy, MayRefuse};
 ghost use Rattle.krb_kdc.specs.Calls.{call_with};
 ghost use Rattle.krb_kdc.specs.Faults.{MayFail};
 ghost use Rattle.krb_kdc.specs.Involved.{IsNamedFetched, KnowsFurther, KnowsNamed};
+ghost use Rattle.krb_kdc.specs.Seen.{IsTold};
+ghost use Rattle.krb_kdc.specs.Sources.{RepliesBy, as_reply_by};
+ghost use Rattle.krb_kdc.specs.Tickets.{IsTicketOf};
 
+use crate::always::Always;
 use crate::begins::begins_request;
 use crate::call::LookupCall;
 use crate::fault::{LookupFault, LookupRefusal};
 use crate::few::fetch;
 use crate::lookup::Lookup;
+use crate::observer::{Observer, Unobserved};
+use crate::pkinit_source::PkinitSource;
+use crate::seen::{Seen, SeenRequest};
 use crate::ticket::fetch_client;
-use krb_accounts::Accounts;
-use krb_kdc_exchanges::laws::of_involved_alone;
 use krb_kdc_exchanges::{
-    Pkinit, as_reply, client_of, read_as_req, read_tgs_req, service_of, tgs_reply,
+    GrantedTicket, Pkinit, as_reply, named_in, read_as_req, read_tgs_req, service_of, tgs_reply,
 };
-use krb_messages::data_types::PrincipalName;
+use krb_messages::data_types::{EncTicketPartInner, PrincipalName};
 use krb_messages::krbtgt_of;
 use krb_messages::messages::KdcReq;
+use krb_realm_accounts::Accounts;
 use picky_asn1::wrapper::GeneralStringAsn1;
 use std::alloc::Global;
 
@@ -46,21 +56,135 @@ pub fn answer_by<L: Lookup, P: Pkinit>(
     ensures answer { (all : Look) → L.holds lookup.now all → IsAnswerBy (Replies (call_with call.now all) (P.rows pkinit.now) message.now) result }
     ensures refusal { IfErr result (MayRefuse (L.may_fail lookup.now) message.now) }
 {
+    let source = Always { pkinit };
+    answer_observed(alloc, lookup, call, &source, &mut Unobserved, message)
+}
+
+/// Returns the same, where what judges requests by certificate is given for the AS request that was read. An observer sees each request
+/// with the outcome of its reply. The message is decoded once.
+///
+/// `Fault` is also returned if nothing is given for an AS request. That comes before the faults of its look-ups.
+pub fn answer_observed<L: Lookup, S: PkinitSource, O: Observer>(
+    alloc: Global,
+    lookup: &L,
+    call: &LookupCall<'_>,
+    source: &S,
+    observer: &mut O,
+    message: &[u8],
+) -> Result<Vec<u8>, LookupRefusal>
+    requires { AreEnoughForReply call.now.words.now }
+    ensures answer { (all : Look) → L.holds lookup.now all → IsAnswerBy (RepliesBy S.Given.rows (S.gives source.now) (call_with call.now all) message.now) result }
+    ensures refusal { IfErr result (MayRefuse (L.may_fail lookup.now ⊎ S.may_fail source.now) message.now) }
+
+    // What the observer saw is of this message and of this reply.
+    ensures told { IfOk result (λ reply. IsTold O.sees (L.holds lookup.now) call.now.realm.now message.now observer.old observer.new reply.items) }
+{
     if !begins_request(message) {
         return Err(LookupRefusal::Unreadable);
     }
     if let Some(request) = read_as_req(alloc, message)? {
-        let few = named_accounts(alloc, lookup, &request)?;
-        let reply = as_reply(alloc, &call.with(&few), pkinit, request)?;
+        let answered = as_answer(alloc, lookup, call, source, observer, &request);
+        drop(request);
+        let reply = answered?;
         return Ok(reply);
     }
     if let Some(request) = read_tgs_req(alloc, message)? {
-        of_involved_alone(pkinit);
-        let few = further_accounts(alloc, lookup, call.realm, &request)?;
-        let reply = tgs_reply(alloc, &call.with(&few), request)?;
+        let answered = tgs_answer(alloc, lookup, call, observer, &request);
+        drop(request);
+        let reply = answered?;
         return Ok(reply);
     }
     Err(LookupRefusal::Unreadable)
+}
+
+// Returns the reply to an AS request.
+fn as_answer<L: Lookup, S: PkinitSource, O: Observer>(
+    alloc: Global,
+    lookup: &L,
+    call: &LookupCall<'_>,
+    source: &S,
+    observer: &mut O,
+    request: &KdcReq,
+) -> Result<Vec<u8>, LookupFault>
+    requires { AreEnoughForReply call.now.words.now }
+    ensures answer { (all : Look) → L.holds lookup.now all
+        → IfOk result (λ reply. (pkinit : S.Given) × S.gives source.now request.now pkinit × (as_reply_by (call_with call.now all) (S.Given.rows pkinit) request.now).gives (Some reply.items)) }
+    ensures fault { IfErr result (MayFail (L.may_fail lookup.now ⊎ S.may_fail source.now)) }
+    ensures told { (message : Bytes) → IsAsReq message request.now
+        → IfOk result (λ reply. IsTold O.sees (L.holds lookup.now) call.now.realm.now message observer.old observer.new reply.items) }
+{
+    let pkinit = source.pkinit_for(alloc, request)?;
+    let few = named_accounts(alloc, lookup, request)?;
+    let reply = as_reply(alloc, &call.with(&few), &pkinit, request)?;
+    see_as(alloc, observer, request, &few, reply.outcome);
+    Ok(reply.bytes)
+}
+
+// Returns the reply to a TGS request.
+fn tgs_answer<L: Lookup, O: Observer>(
+    alloc: Global,
+    lookup: &L,
+    call: &LookupCall<'_>,
+    observer: &mut O,
+    request: &KdcReq,
+) -> Result<Vec<u8>, LookupFault>
+    requires { AreEnoughForReply call.now.words.now }
+    ensures answer { (all : Look) → L.holds lookup.now all → IfOk result (λ reply. (tgs_reply (call_with call.now all) request.now).gives (Some reply.items)) }
+    ensures fault { IfErr result (MayFail (L.may_fail lookup.now)) }
+    ensures told { (message : Bytes) → IsTgsReq message request.now
+        → IfOk result (λ reply. IsTold O.sees (L.holds lookup.now) call.now.realm.now message observer.old observer.new reply.items) }
+{
+    let further = further_accounts(alloc, lookup, call.realm, request)?;
+    let reply = tgs_reply(alloc, &call.with(&further.few), request)?;
+    let ticket = further.ticket.as_ref();
+    see_tgs(
+        alloc,
+        observer,
+        request,
+        ticket,
+        &further.few,
+        reply.outcome,
+    );
+    Ok(reply.bytes)
+}
+
+// Shows an observer an AS request, the accounts that it involves, and the outcome of its reply.
+fn see_as<'a, O: Observer>(
+    alloc: Global,
+    observer: &mut O,
+    request: &'a KdcReq,
+    accounts: &'a Accounts,
+    outcome: Result<GrantedTicket, u32>,
+)
+    ensures { O.sees observer.old (record { request = SeenRequest.As request.entry; accounts = accounts.entry; outcome = outcome }) observer.new }
+{
+    let request = SeenRequest::As(request);
+    let seen = Seen {
+        request,
+        accounts,
+        outcome,
+    };
+    observer.see(alloc, &seen);
+}
+
+// Shows an observer a TGS request, the part of its ticket if that opens, the accounts that it involves, and the outcome of its reply.
+fn see_tgs<'a, O: Observer>(
+    alloc: Global,
+    observer: &mut O,
+    request: &'a KdcReq,
+    ticket: Option<&'a EncTicketPartInner>,
+    accounts: &'a Accounts,
+    outcome: Result<GrantedTicket, u32>,
+)
+    ensures { O.sees observer.old (record { request = SeenRequest.Tgs request.entry ticket.entry; accounts = accounts.entry; outcome = outcome }) observer.new }
+{
+    let request = SeenRequest::Tgs(request, ticket);
+    let seen = Seen {
+        request,
+        accounts,
+        outcome,
+    };
+    observer.see(alloc, &seen);
 }
 
 // Looks up the accounts of the client and of the service that an AS request names.
@@ -73,11 +197,18 @@ fn named_accounts<L: Lookup>(
         → IfOk result (λ few. KnowsNamed all few (client_of (body_of request.now)) × KnowsNamed all few (service_of (body_of request.now))) }
     ensures fault { IfErr result (MayFail (L.may_fail lookup.now)) }
 {
-    let body = &request.req_body.0;
+    let named = named_in(&request.req_body.0);
     let mut few = Accounts::new(alloc);
-    fetch_named(alloc, lookup, &mut few, client_of(body))?;
-    fetch_named(alloc, lookup, &mut few, service_of(body))?;
+    fetch_named(alloc, lookup, &mut few, named.client)?;
+    fetch_named(alloc, lookup, &mut few, named.service)?;
     Ok(few)
+}
+
+// What a TGS request involves: the accounts that were looked up, and the part of the ticket that it presents, if that opens.
+#[derive(Drop)]
+struct Further {
+    few: Accounts,
+    ticket: Option<EncTicketPartInner>,
 }
 
 // Looks up the accounts that a TGS request involves: of the ticket-granting service, of the ticket's client, and of the service.
@@ -86,16 +217,23 @@ fn further_accounts<L: Lookup>(
     lookup: &L,
     realm: &GeneralStringAsn1,
     request: &KdcReq,
-) -> Result<Accounts, LookupFault>
-    ensures few { (all : Look) → L.holds lookup.now all → IfOk result (λ few. KnowsFurther all few (krbtgt_of realm.now) request.now) }
+) -> Result<Further, LookupFault>
+    ensures few { (all : Look) → L.holds lookup.now all → IfOk result (λ further. KnowsFurther all further.few (krbtgt_of realm.now) request.now) }
+    ensures ticket { (all : Look) → L.holds lookup.now all
+        → IfOk result (λ further. IsFound (IsTicketOf further.few (krbtgt_of realm.now) (padata_in request.now)) further.ticket) }
     ensures fault { IfErr result (MayFail (L.may_fail lookup.now)) }
 {
     let granting = krbtgt_of(alloc, realm)?;
     let mut few = Accounts::new(alloc);
     fetch(alloc, lookup, &mut few, &granting)?;
-    fetch_client(alloc, lookup, &mut few, &granting, request)?;
-    fetch_named(alloc, lookup, &mut few, service_of(&request.req_body.0))?;
-    Ok(few)
+    let ticket = fetch_client(alloc, lookup, &mut few, &granting, request)?;
+    match fetch_named(alloc, lookup, &mut few, service_of(&request.req_body.0)) {
+        Ok(()) => Ok(Further { few, ticket }),
+        Err(fault) => {
+            drop(ticket);
+            Err(fault)
+        }
+    }
 }
 
 // Looks the account of a name up, if the name is given.

@@ -1,6 +1,6 @@
 //! A call to a realm whose accounts are looked up.
-use krb_accounts::{Accounts, Settings};
 use krb_kdc_exchanges::Call;
+use krb_realm_accounts::{Accounts, Settings};
 use krb_time::Moment;
 use picky_asn1::wrapper::GeneralStringAsn1;
 
@@ -20,7 +20,7 @@ pub struct LookupCall<'a> {
 
 impl LookupCall<'_> {
     ghost use Rattle.std.specs.Prelude.{◌≡◌};
-    ghost use Rattle.krb_accounts.specs.Accounts.{look_in};
+    ghost use Rattle.krb_realm_accounts.specs.Accounts.{look_in};
     ghost use Rattle.krb_kdc_exchanges.specs.Call.{call_of};
     ghost use Rattle.krb_kdc.specs.Calls.{call_with};
 

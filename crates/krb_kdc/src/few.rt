@@ -2,14 +2,14 @@
 ghost use Rattle.std.specs.Prelude.{◌≡◌, IfErr, IfOk, OnOk};
 ghost use Rattle.std.specs.FinMap as finite;
 ghost use Rattle.std.specs.Option.{is_some};
-ghost use Rattle.krb_accounts.specs.Accounts.{Look, look_in};
+ghost use Rattle.krb_realm_accounts.specs.Accounts.{Look, look_in};
 ghost use Rattle.krb_kdc.specs.Faults.{MayFail};
 ghost use Rattle.krb_kdc.specs.Few.{IsFetched};
 ghost use Rattle.krb_kdc.specs.declared.fault.LookupFault.TheVariants.{Memory};
 
 use crate::fault::LookupFault;
 use crate::lookup::Lookup;
-use krb_accounts::{Account, Accounts};
+use krb_realm_accounts::{Account, Accounts};
 use picky_asn1::wrapper::GeneralStringAsn1;
 use std::alloc::{AllocError, Global};
 

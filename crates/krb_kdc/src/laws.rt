@@ -3,7 +3,7 @@ ghost use Rattle.std.specs.Prelude.{◌<◌, ◌^◌, length};
 ghost use Rattle.krb_messages.specs.RandomBytes.{AreEnoughForReply};
 ghost use Rattle.block_ciphers.specs.Bytes.{IsBytes};
 ghost use Rattle.decision_tables.specs.Some.{HasSome};
-ghost use Rattle.krb_accounts.specs.Accounts.{Look};
+ghost use Rattle.krb_realm_accounts.specs.Accounts.{Look};
 ghost use Rattle.krb_kdc_exchanges.specs.Calls.{AreKeyed};
 ghost use Rattle.krb_kdc_exchanges.specs.Replies.{Replies};
 ghost use Rattle.krb_kdc.specs.Calls.{call_with};

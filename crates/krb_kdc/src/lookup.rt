@@ -1,10 +1,10 @@
 //! What accounts are looked up in.
 ghost use Rattle.std.specs.Prelude.{◌≡◌, IfOk, IfErr};
-ghost use Rattle.krb_accounts.specs.Accounts.{Look};
+ghost use Rattle.krb_realm_accounts.specs.Accounts.{Look};
 ghost use Rattle.krb_kdc.specs.Faults.{MayFail};
 
 use crate::fault::LookupFault;
-use krb_accounts::{Account, Accounts};
+use krb_realm_accounts::{Account, Accounts};
 use picky_asn1::wrapper::GeneralStringAsn1;
 use std::alloc::{AllocError, Global};
 
@@ -29,7 +29,7 @@ pub trait Lookup {
 
 // Accounts in memory can always be read.
 impl Lookup for Accounts {
-    ghost use Rattle.krb_accounts.specs.Accounts.{look_in};
+    ghost use Rattle.krb_realm_accounts.specs.Accounts.{look_in};
 
     ghost holds = { λ accounts all. look_in accounts ≡ all };
 

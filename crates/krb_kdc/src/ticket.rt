@@ -1,44 +1,47 @@
 //! The client of the ticket that a TGS request comes with.
 ghost use Rattle.std.specs.Prelude.{◌≡◌, IfErr, IfOk, OnOk};
-ghost use Rattle.krb_accounts.specs.Accounts.{Look};
+ghost use Rattle.krb_realm_accounts.specs.Accounts.{Look};
 ghost use Rattle.krb_ap_requests.specs.ApTable.{enc_part_in};
 ghost use Rattle.krb_ap_requests.specs.Messages.{IsTicketPart};
 ghost use Rattle.picky_asn1_der.specs.Found.{IsFound};
-ghost use Rattle.krb_kdc_exchanges.specs.Requests.{padata_in};
+ghost use Rattle.krb_messages.specs.Padata.{padata_in};
 ghost use Rattle.krb_kdc.specs.Faults.{MayFail};
 ghost use Rattle.krb_kdc.specs.Tickets.{IsClientFetched, IsTicketOf};
 
 use crate::fault::LookupFault;
 use crate::few::fetch;
 use crate::lookup::Lookup;
-use krb_accounts::{Account, Accounts};
 use krb_ap_requests::{enc_part_in, open_ticket, read_ap_req};
 use krb_constants::padata_types::PA_TGS_REQ;
-use krb_kdc_exchanges::padata_in;
-use krb_messages::Refusal;
 use krb_messages::data_types::{EncTicketPartInner, PaData};
 use krb_messages::messages::{ApReqInner, KdcReq};
-use krb_tickets::first_of;
+use krb_messages::{Refusal, first_of, padata_in};
+use krb_realm_accounts::{Account, Accounts};
 use picky_asn1::wrapper::GeneralStringAsn1;
 use std::alloc::{AllocError, Global};
 
-/// Looks up the client of the ticket in a request's PA-TGS-REQ, if the key of this name's account opens it.
+/// Looks up the client of the ticket in a request's PA-TGS-REQ, if the key of this name's account opens it. It returns the ticket's part.
 pub(crate) fn fetch_client<L: Lookup>(
     alloc: Global,
     lookup: &L,
     few: &mut Accounts,
     granting: &[GeneralStringAsn1],
     request: &KdcReq,
-) -> Result<(), LookupFault>
+) -> Result<Option<EncTicketPartInner>, LookupFault>
     ensures few { (all : Look) → L.holds lookup.now all → OnOk result (IsClientFetched all granting.now (padata_in request.now) few.old few.new) }
+    ensures ticket { IfOk result (IsFound (IsTicketOf few.old granting.now (padata_in request.now))) }
     ensures fault { IfErr result (MayFail (L.may_fail lookup.now)) }
 {
     let Some(part) = part_by(alloc, few, granting, padata_in(request))? else {
-        return Ok(());
+        return Ok(None);
     };
-    let fetched = fetch(alloc, lookup, few, part.cname.0.name_string.0.as_slice());
-    drop(part);
-    fetched
+    match fetch(alloc, lookup, few, part.cname.0.name_string.0.as_slice()) {
+        Ok(()) => Ok(Some(part)),
+        Err(fault) => {
+            drop(part);
+            Err(fault)
+        }
+    }
 }
 
 // Returns the part of the ticket in the PA-TGS-REQ of these padata, by the key of this name's account, or none.

@@ -3,7 +3,7 @@ use Rattle.std.proofs.Common.{◌≡◌, ◌<◌, ℕ, ◌^◌, Bool, true, fals
 use Rattle.picky_asn1.specs.Numbers.{is_number}
 use Rattle.krb_time.specs.Skew.{is_far}
 use Rattle.krb_crypto.specs.declared.suite.CipherSuite.{CipherSuite}
-use Rattle.krb_accounts.specs.Account.{AccountRecord}
+use Rattle.krb_realm_accounts.specs.Account.{AccountRecord}
 use Rattle.krb_messages.specs.Names.{is_same_realm}
 use Rattle.krb_messages.specs.declared.data_types.pa_data.PaData.{PaData}
 use Rattle.krb_messages.specs.declared.data_types.pa_enc_timestamp.PaEncTsEnc.{PaEncTsEnc}
@@ -13,8 +13,8 @@ use Rattle.krb_messages.specs.declared.messages.kdc_req.KdcReq.{KdcReq}
 use Rattle.krb_messages.specs.declared.messages.kdc_req_body.KdcReqBody.{KdcReqBody}
 use Rattle.decision_tables.specs.Tables.{Table, and_then, ask, done, need, refuse}
 use Rattle.decision_tables.proofs.Outcomes.{HasOutcome, has_asked, has_done, has_needed, has_refused, has_then}
-use Rattle.krb_tickets.specs.Padata.{first_of}
-use Rattle.krb_tickets.specs.EncryptedTimestamps.{IsEncryptedTimestamp, moment_of, sole_encrypted_timestamp}
+use Rattle.krb_messages.specs.Padata.{first_of}
+use Rattle.krb_kdc_exchanges.specs.EncryptedTimestamps.{IsEncryptedTimestamp, moment_of, sole_encrypted_timestamp}
 use Rattle.krb_tickets.specs.declared.reply.Exchange.TheVariants.{As}
 use Rattle.block_ciphers.specs.Bytes.{IsBytes}
 use Rattle.krb_crypto.specs.Suites.{cipher_key_size}
@@ -28,7 +28,8 @@ use Rattle.krb_kdc_exchanges.specs.AsTable.{as_table, authenticated, authenticat
 use Rattle.krb_kdc_exchanges.specs.Call.{CallRecord, pkinit_call, skew_of}
 use Rattle.krb_kdc_exchanges.specs.Calls.{IsCall, IsKeyed}
 use Rattle.krb_kdc_exchanges.specs.Grants.{Principals, granted, initial_grant}
-use Rattle.krb_kdc_exchanges.specs.Requests.{header_rows, client_of, padata_in, lasting, service_of}
+use Rattle.krb_kdc_exchanges.specs.Requests.{header_rows, client_of, lasting, service_of}
+use Rattle.krb_messages.specs.Padata.{padata_in}
 use Rattle.krb_kdc_exchanges.specs.declared.span.Span.{Span}
 use Rattle.krb_kdc_exchanges.proofs.HasGrant.{has_header, has_lasting, has_replied}
 use Rattle.krb_kdc_exchanges.proofs.RequestTrees.{body_fits, client_fits, nonce_fits, service_fits}

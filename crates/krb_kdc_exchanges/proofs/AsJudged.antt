@@ -1,9 +1,7 @@
 -- What the parts of an AS request's table give, the table gives.
 use Rattle.std.proofs.Common.{◌≡◌, ℕ, List, Option, Some, Result, Ok, Err, refl, inl, inr}
-use Rattle.std.specs.Prelude.{Vec}
-use Rattle.std.specs.Global.{Global}
 use Rattle.krb_messages.specs.declared.messages.kdc_req.KdcReq.{KdcReq}
-use Rattle.krb_accounts.specs.Account.{AccountRecord}
+use Rattle.krb_realm_accounts.specs.Account.{AccountRecord}
 use Rattle.krb_messages.specs.Refusals.{IsJudged}
 use Rattle.krb_messages.specs.declared.refusal.Refusal.{Refusal}
 use Rattle.krb_messages.specs.declared.refusal.Refusal.TheVariants.{Krb, Memory}
@@ -14,7 +12,8 @@ use Rattle.krb_tickets.specs.ReplyKeys.{ReplyKeyRecord}
 use Rattle.krb_kdc_exchanges.specs.AsTable.{as_table, authenticated, possible}
 use Rattle.krb_kdc_exchanges.specs.Call.{CallRecord}
 use Rattle.krb_kdc_exchanges.specs.Grants.{Principals, granted}
-use Rattle.krb_kdc_exchanges.specs.Granting.{IsGranted}
+use Rattle.krb_kdc_exchanges.specs.Granting.{IsGranted, IsGrantedTicket}
+use Rattle.krb_kdc_exchanges.specs.declared.granted.Granted.{Granted}
 use Rattle.krb_kdc_exchanges.specs.Requests.{header_rows, client_of, service_of}
 use Rattle.krb_kdc_exchanges.specs.declared.span.Span.{Span}
 
@@ -35,7 +34,7 @@ module _ (call : CallRecord) (rows : PkinitRows) (client service : Option Accoun
   abbrev pub of_client : Result ReplyKeyRecord Refusal → Type 0
   of_client r = IsJudged (authenticated call rows these.client (components these.client_name) request).gives r
 
-  abbrev pub answers : Result (Vec ℕ Global) Refusal → Type 0
+  abbrev pub answers : Result Granted Refusal → Type 0
   answers r = IsGranted (as_table call rows client service request).gives r
 
   -- all that is judged of those who are known
@@ -45,8 +44,8 @@ module _ (call : CallRecord) (rows : PkinitRows) (client service : Option Accoun
       and_then (authenticated call rows these.client (components these.client_name) request) (λ under.
       granted call these under span request.req_body.0))
 
-  known : (r : Result (Vec ℕ Global) Refusal) → AreKnown call.realm client service request these → IsGranted further.gives r → answers r
-  known (Ok bytes) k x = inl (tt, k.header, rw (k.client_name, k.client, k.service_name, k.service) x)
+  known : (r : Result Granted Refusal) → AreKnown call.realm client service request these → IsGranted further.gives r → answers r
+  known (Ok made) k x = (inl (tt, k.header, rw (k.client_name, k.client, k.service_name, k.service) x.0), x.1)
   known (Err (Krb code)) k x = inl (tt, k.header, rw (k.client_name, k.client, k.service_name, k.service) x)
   known (Err Memory) k x = tt
 
@@ -67,6 +66,6 @@ module _ (call : CallRecord) (rows : PkinitRows) (client service : Option Accoun
   refused_client span e k t x = known (Err e) k (client_refused span e t x)
 
   -- the ticket is given
-  pub given_ticket : (span : Span) (under : ReplyKeyRecord) (bytes : Vec ℕ Global) → AreKnown call.realm client service request these → of_ticket (Ok span) → of_client (Ok under)
-      → (granted call these under span request.req_body.0).gives (Ok bytes.items) → answers (Ok bytes)
-  given_ticket span under bytes k t c x = known (Ok bytes) k (inl (span, t, inl (under, c, x)))
+  pub given_ticket : (span : Span) (under : ReplyKeyRecord) (made : Granted) → AreKnown call.realm client service request these → of_ticket (Ok span) → of_client (Ok under)
+      → (granted call these under span request.req_body.0).gives (Ok made.reply.items) → IsGrantedTicket made.reply.items made.ticket → answers (Ok made)
+  given_ticket span under made k t c x y = known (Ok made) k (inl (span, t, inl (under, c, x)), y)

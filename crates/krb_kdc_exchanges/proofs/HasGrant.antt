@@ -10,7 +10,7 @@ use Rattle.krb_crypto.specs.Suites.{cipher_confounder_size, cipher_key_size}
 use Rattle.krb_crypto.specs.declared.suite.CipherSuite.{CipherSuite}
 use Rattle.krb_crypto.proofs.AllSuites.{confounder_below}
 use Rattle.krb_crypto.proofs.SealedTexts.{has_sealed}
-use Rattle.krb_accounts.specs.Account.{AccountRecord}
+use Rattle.krb_realm_accounts.specs.Account.{AccountRecord}
 use Rattle.krb_messages.specs.Names.{is_same_realm}
 use Rattle.krb_messages.specs.RandomBytes.{random_part}
 use Rattle.krb_messages.specs.declared.data_types.encrypted_data.EncryptedData.{EncryptedData}
@@ -23,7 +23,7 @@ use Rattle.krb_tickets.specs.Grant.{GrantRecord}
 use Rattle.krb_tickets.specs.Parts.{kdc_reply_of, reply_part, ticket_of, ticket_part}
 use Rattle.krb_tickets.specs.ReplyKeys.{ReplyKeyRecord}
 use Rattle.krb_tickets.specs.Sealed.{kdc_reply_bytes, reply_part_bytes, ticket_part_bytes}
-use Rattle.krb_tickets.specs.Times.{asked_end, end_of, old_end, start_of}
+use Rattle.krb_kdc_exchanges.specs.Times.{asked_end, end_of, old_end, start_of}
 use Rattle.krb_tickets.specs.Granted.{IsTicketReply, sole_ticket_reply}
 use Rattle.krb_kdc_exchanges.specs.Calls.{IsKeyed}
 use Rattle.krb_kdc_exchanges.specs.Granting.{replied}

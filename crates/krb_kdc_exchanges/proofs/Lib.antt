@@ -1,3 +1,4 @@
+mod EncryptedTimestamp
 pub mod Seconds
 pub mod Short
 pub mod PartTrees
@@ -15,7 +16,7 @@ mod SealedLengths
 pub mod ByTicket
 pub mod TgsHasOutcome
 pub mod TgsInvolved
-mod Granted
+mod GrantedFurther
 mod TgsJudged
 mod GrantedSuites
 pub mod Errors

@@ -1,12 +1,11 @@
 -- What is judged by a part of a table, and then by the parts behind it.
 use Rattle.std.proofs.Common.{ℕ, List, Result, Ok, Err, refl, inl, inr}
-use Rattle.std.specs.Prelude.{Vec}
-use Rattle.std.specs.Global.{Global}
 use Rattle.krb_messages.specs.Refusals.{IsJudged}
 use Rattle.krb_messages.specs.declared.refusal.Refusal.{Refusal}
 use Rattle.krb_messages.specs.declared.refusal.Refusal.TheVariants.{Krb, Memory}
 use Rattle.decision_tables.specs.Tables.{Table, and_then}
 use Rattle.krb_kdc_exchanges.specs.Granting.{IsGranted}
+use Rattle.krb_kdc_exchanges.specs.declared.granted.Granted.{Granted}
 
 module _ {A : Type 0} (part : Table (Result A ℕ)) where
   -- the part refuses
@@ -24,7 +23,7 @@ module _ {A : Type 0} (part : Table (Result A ℕ)) where
   part_passed rest a (Err (Krb code)) x y = inl (a, x, y)
   part_passed rest a (Err Memory) x y = tt
 
-  pub grant_passed : (rest : A → Table (Result (List ℕ) ℕ)) (a : A) (r : Result (Vec ℕ Global) Refusal) → part.gives (Ok a) → IsGranted (rest a).gives r → IsGranted (and_then part rest).gives r
-  grant_passed rest a (Ok bytes) x y = inl (a, x, y)
+  pub grant_passed : (rest : A → Table (Result (List ℕ) ℕ)) (a : A) (r : Result Granted Refusal) → part.gives (Ok a) → IsGranted (rest a).gives r → IsGranted (and_then part rest).gives r
+  grant_passed rest a (Ok made) x y = (inl (a, x, y.0), y.1)
   grant_passed rest a (Err (Krb code)) x y = inl (a, x, y)
   grant_passed rest a (Err Memory) x y = tt

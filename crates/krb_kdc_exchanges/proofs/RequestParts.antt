@@ -17,8 +17,8 @@ use Rattle.krb_messages.specs.Trees.{pa_data_tree}
 use Rattle.krb_messages.specs.declared.data_types.pa_data.PaData.{PaData}
 use Rattle.krb_messages.specs.MessageTrees.{kdc_req_body_tree, kdc_req_inner_tree}
 use Rattle.krb_messages.specs.declared.messages.kdc_req.KdcReq.{KdcReq}
-use Rattle.krb_tickets.specs.Padata.{first_padata, first_of}
-use Rattle.krb_kdc_exchanges.specs.Requests.{padata_in}
+use Rattle.krb_messages.specs.Padata.{first_padata, first_of}
+use Rattle.krb_messages.specs.Padata.{padata_in}
 use Rattle.krb_messages.specs.Bodies.{body_bytes}
 
 -- a part of a part is a part

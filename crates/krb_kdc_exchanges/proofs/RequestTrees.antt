@@ -11,7 +11,7 @@ use Rattle.krb_messages.specs.declared.data_types.principal_name.PrincipalName.{
 use Rattle.krb_messages.specs.MessageTrees.{kdc_req_body_tree, kdc_req_inner_tree}
 use Rattle.krb_messages.specs.declared.messages.kdc_req.KdcReq.{KdcReq}
 use Rattle.krb_messages.specs.declared.messages.kdc_req_body.KdcReqBody.{KdcReqBody}
-use Rattle.krb_tickets.specs.Padata.{first_padata, first_of}
+use Rattle.krb_messages.specs.Padata.{first_padata, first_of}
 use Rattle.krb_kdc_exchanges.proofs.Short.{AllFit, Fits, IsShort, behind_optional, content_of, head, in_tag, in_wrapped, inside, looser_all, no_trees, tail}
 use Rattle.krb_kdc_exchanges.proofs.PartTrees.{integer_tree, principal_name_tree, realm_tree, time_tree}
 

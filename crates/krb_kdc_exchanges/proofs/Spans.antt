@@ -2,7 +2,7 @@
 use Rattle.std.proofs.Common.{◌≡◌, ℕ, true, false, Option, Ok, Err, refl, ap, ◌∙◌}
 use Rattle.asn1_leaves.specs.GeneralizedTime.{seconds_of}
 use Rattle.krb_messages.specs.declared.messages.kdc_req_body.KdcReqBody.{KdcReqBody}
-use Rattle.krb_tickets.specs.Times.{end_of, start_of}
+use Rattle.krb_kdc_exchanges.specs.Times.{end_of, start_of}
 use Rattle.krb_kdc_exchanges.specs.Requests.{IsSpan, is_ended, lasting}
 use Rattle.krb_kdc_exchanges.specs.declared.span.Span.{Span}
 

@@ -1,7 +1,7 @@
 -- What the table gives rests on the accounts that are looked up for it.
 use Rattle.std.proofs.Common.{◌≡◌, ℕ, not, List, Option, None, Some, Result, Ok, refl, subst, inl, inr}
-use Rattle.krb_accounts.specs.Account.{AccountRecord}
-use Rattle.krb_accounts.specs.Accounts.{Look}
+use Rattle.krb_realm_accounts.specs.Account.{AccountRecord}
+use Rattle.krb_realm_accounts.specs.Accounts.{Look}
 use Rattle.krb_messages.specs.Names.{components}
 use Rattle.krb_messages.specs.declared.data_types.enc_ticket_part.EncTicketPartInner.{EncTicketPartInner}
 use Rattle.krb_messages.specs.declared.data_types.principal_name.PrincipalName.{PrincipalName}
@@ -13,7 +13,8 @@ use Rattle.krb_ap_requests.specs.declared.presented.Authenticated.{Authenticated
 use Rattle.krb_kdc_exchanges.specs.Call.{CallRecord}
 use Rattle.asn1_leaves.specs.GeneralizedTime.{seconds_of}
 use Rattle.krb_kdc_exchanges.specs.Granting.{replied}
-use Rattle.krb_kdc_exchanges.specs.Requests.{lasting, padata_in, service_of}
+use Rattle.krb_kdc_exchanges.specs.Requests.{lasting, service_of}
+use Rattle.krb_messages.specs.Padata.{padata_in}
 use Rattle.krb_messages.specs.TicketGranting.{krbtgt_of}
 use Rattle.krb_kdc_exchanges.specs.ByTicket.{IsByTicket, IsInvolvedFurther}
 use Rattle.krb_kdc_exchanges.specs.TgsTable.{carried, covered, first_granted, further, further_grant, holds_back_des3, of_carried, of_authenticated, of_ticket, authenticated_near, reply_key, subkey_in, tgs_granted, tgs_table, ticket_granting, to_us}

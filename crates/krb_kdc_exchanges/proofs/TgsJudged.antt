@@ -1,10 +1,8 @@
 -- What the parts of a TGS request's table give, the table gives.
 use Rattle.std.proofs.Common.{◌≡◌, ℕ, List, Option, None, Some, Result, Ok, Err, refl, sym, subst, inl}
-use Rattle.std.specs.Prelude.{Vec}
-use Rattle.std.specs.Global.{Global}
 use Rattle.krb_crypto.specs.declared.suite.CipherSuite.{CipherSuite}
 use Rattle.krb_crypto.specs.Keys.{KeyRecord}
-use Rattle.krb_accounts.specs.Account.{AccountRecord}
+use Rattle.krb_realm_accounts.specs.Account.{AccountRecord}
 use Rattle.krb_messages.specs.Refusals.{IsJudged}
 use Rattle.krb_messages.specs.declared.data_types.enc_ticket_part.EncTicketPartInner.{EncTicketPartInner}
 use Rattle.krb_messages.specs.declared.refusal.Refusal.{Refusal}
@@ -14,6 +12,7 @@ use Rattle.decision_tables.specs.Tables.{Table, and_then, done, need}
 use Rattle.krb_ap_requests.specs.ApTable.{ap_fields, opened_part}
 use Rattle.krb_kdc_exchanges.specs.Call.{CallRecord}
 use Rattle.krb_kdc_exchanges.specs.Granting.{IsGranted}
+use Rattle.krb_kdc_exchanges.specs.declared.granted.Granted.{Granted}
 use Rattle.krb_messages.specs.TicketGranting.{krbtgt_of}
 use Rattle.krb_kdc_exchanges.proofs.Parts.{part_passed, part_refused}
 use Rattle.krb_kdc_exchanges.specs.TgsTable.{client_and_times, of_carried, of_ticket, ticket_granting}
@@ -72,6 +71,6 @@ module _ (call : CallRecord) (body : KdcReqBody) (ap_req : ApReqInner) (found : 
   pub unknown : found ≡ None → (of_carried call body ap_req).gives (Err 7)
   unknown none = subst (λ o. (need {A = AccountRecord} o 7 rest).gives (Err 7)) account (subst (λ o. (need {A = AccountRecord} o 7 rest).gives (Err 7)) (sym none) refl)
 
-  pub known : (granting : AccountRecord) (r : Result (Vec ℕ Global) Refusal) → found ≡ Some granting → IsGranted (rest granting).gives r → IsGranted (of_carried call body ap_req).gives r
+  pub known : (granting : AccountRecord) (r : Result Granted Refusal) → found ≡ Some granting → IsGranted (rest granting).gives r → IsGranted (of_carried call body ap_req).gives r
   known granting r some x =
       subst (λ o. IsGranted (need {A = AccountRecord} o 7 rest).gives r) account (subst (λ o. IsGranted (need {A = AccountRecord} o 7 rest).gives r) (sym some) x)

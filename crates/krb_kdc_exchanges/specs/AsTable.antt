@@ -8,7 +8,7 @@ use Rattle.picky_asn1.specs.Bytes.{Bytes}
 use Rattle.krb_time.specs.Skew.{is_before, is_far}
 use Rattle.krb_crypto.specs.declared.suite.CipherSuite.{CipherSuite}
 use Rattle.krb_crypto.specs.Suites.{cipher_number}
-use Rattle.krb_accounts.specs.Account.{AccountRecord}
+use Rattle.krb_realm_accounts.specs.Account.{AccountRecord}
 use Rattle.krb_messages.specs.declared.data_types.pa_data.PaData.{PaData}
 use Rattle.krb_messages.specs.Names.{components}
 use Rattle.krb_messages.specs.Refusals.{Code}
@@ -18,14 +18,15 @@ use Rattle.krb_constants.specs.declared.types.TheConstants.{AS_REQ_MSG_TYPE}
 use Rattle.krb_messages.specs.declared.messages.kdc_req.KdcReq.{KdcReq}
 use Rattle.krb_messages.specs.declared.messages.kdc_req_body.KdcReqBody.{KdcReqBody}
 use Rattle.decision_tables.specs.Tables.{Table, and_then, ask, done, need, refuse}
-use Rattle.krb_tickets.specs.Padata.{first_of}
-use Rattle.krb_tickets.specs.EncryptedTimestamps.{IsEncryptedTimestamp, moment_of, sole_encrypted_timestamp}
+use Rattle.krb_messages.specs.Padata.{first_of}
+use Rattle.krb_kdc_exchanges.specs.EncryptedTimestamps.{IsEncryptedTimestamp, moment_of, sole_encrypted_timestamp}
 use Rattle.krb_tickets.specs.ReplyKeys.{ReplyKeyRecord, agreed_reply_key, as_reply_key}
 use Rattle.krb_crypto.specs.AgreedKeys.{agreed_key}
 use Rattle.krb_kdc_exchanges.specs.Rows.{PkinitRows}
 use Rattle.krb_kdc_exchanges.specs.Call.{CallRecord, pkinit_call, skew_of}
 use Rattle.krb_kdc_exchanges.specs.Grants.{granted}
-use Rattle.krb_kdc_exchanges.specs.Requests.{body_of, client_of, header_rows, lasting, padata_in, service_of}
+use Rattle.krb_kdc_exchanges.specs.Requests.{body_of, client_of, header_rows, lasting, service_of}
+use Rattle.krb_messages.specs.Padata.{padata_in}
 use Rattle.krb_kdc_exchanges.specs.declared.span.Span.{Span}
 
 -- `from` is later than the moment by more than the skew

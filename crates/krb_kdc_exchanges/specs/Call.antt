@@ -3,8 +3,8 @@ use Rattle.std.specs.Prelude.{◌*◌, List}
 use Rattle.krb_messages.specs.RandomBytes.{Random}
 use Rattle.krb_time.specs.Units.{Micros}
 use Rattle.picky_asn1.specs.Bytes.{Bytes}
-use Rattle.krb_accounts.specs.Accounts.{Look, look_in}
-use Rattle.krb_accounts.specs.Settings.{SettingsRecord}
+use Rattle.krb_realm_accounts.specs.Accounts.{Look, look_in}
+use Rattle.krb_realm_accounts.specs.Settings.{SettingsRecord}
 use Rattle.krb_messages.specs.declared.messages.kdc_req_body.KdcReqBody.{KdcReqBody}
 use Rattle.krb_kdc_exchanges.specs.PkinitCalls.{PkinitCallRecord}
 use Rattle.krb_kdc_exchanges.specs.declared.call.Call as held

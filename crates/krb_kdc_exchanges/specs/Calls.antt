@@ -5,8 +5,8 @@ use Rattle.picky_asn1.specs.Bytes.{Bytes}
 use Rattle.block_ciphers.specs.Bytes.{IsBytes}
 use Rattle.krb_time.specs.Moment.{IsMoment}
 use Rattle.krb_crypto.specs.Suites.{cipher_key_size}
-use Rattle.krb_accounts.specs.Account.{AccountRecord}
-use Rattle.krb_accounts.specs.Accounts.{Look}
+use Rattle.krb_realm_accounts.specs.Account.{AccountRecord}
+use Rattle.krb_realm_accounts.specs.Accounts.{Look}
 use Rattle.krb_kdc_exchanges.specs.Call.{CallRecord}
 
 -- the account's key has the length of its suite, and is bytes

@@ -1,8 +1,7 @@
 -- What a realm grants, in an AS or a TGS exchange (RFC 4120, sections 3.1.3, 3.3.3).
-use Rattle.std.specs.Prelude.{ℕ, Result, Ok, Err, Vec}
-use Rattle.std.specs.Global.{Global}
+use Rattle.std.specs.Prelude.{◌≡◌, Result, Ok, Err}
 use Rattle.picky_asn1.specs.Bytes.{Bytes}
-use Rattle.krb_accounts.specs.Account.{AccountRecord}
+use Rattle.krb_realm_accounts.specs.Account.{AccountRecord}
 use Rattle.krb_messages.specs.RandomBytes.{Random}
 use Rattle.krb_messages.specs.Refusals.{Code}
 use Rattle.krb_messages.specs.declared.refusal.Refusal.{Refusal}
@@ -11,10 +10,25 @@ use Rattle.decision_tables.specs.Tables.{Table, done, make}
 use Rattle.krb_tickets.specs.Grant.{GrantRecord}
 use Rattle.krb_tickets.specs.ReplyKeys.{ReplyKeyRecord}
 use Rattle.krb_tickets.specs.Granted.{IsTicketReply, sole_ticket_reply}
+use Rattle.krb_kdc_exchanges.specs.declared.granted.Granted.{Granted}
+use Rattle.krb_kdc_exchanges.specs.declared.granted.GrantedTicket.{GrantedTicket}
 
--- unless memory runs out, the reply's bytes or the error code are the outcome of the table
-abbrev pub IsGranted : (Result Bytes Code → Type 0) → Result (Vec ℕ Global) Refusal → Type 0
-IsGranted gives (Ok bytes) = gives (Ok bytes.items)
+-- the bytes are a reply that grants this ticket: the suites are those of the service's key and of the reply key, the times those of the
+-- grant
+pub record IsGrantedTicket (bytes : Bytes) (ticket : GrantedTicket) : Type 0 where
+  pub grant : GrantRecord
+  pub under : ReplyKeyRecord
+  pub service : AccountRecord
+  pub words : Random
+  pub reply : IsTicketReply grant under service words bytes
+  pub suite : ticket.suite ≡ service.suite
+  pub reply_suite : ticket.reply_suite ≡ under.suite
+  pub starts : ticket.span.starttime ≡ grant.starttime
+  pub ends : ticket.span.endtime ≡ grant.endtime
+
+-- unless memory runs out, the reply's bytes or the error code are the outcome of the table, and the ticket is the reply's
+abbrev pub IsGranted : (Result Bytes Code → Type 0) → Result Granted Refusal → Type 0
+IsGranted gives (Ok made) = gives (Ok made.reply.items) × IsGrantedTicket made.reply.items made.ticket
 IsGranted gives (Err (Krb code)) = gives (Err code)
 IsGranted gives (Err Memory) = Unit {0}
 

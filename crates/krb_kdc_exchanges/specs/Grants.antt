@@ -1,7 +1,7 @@
 -- The first ticket, which a realm grants in an AS exchange (RFC 4120, section 3.1.3).
 use Rattle.std.specs.Prelude.{true, Result}
 use Rattle.picky_asn1.specs.Bytes.{Bytes}
-use Rattle.krb_accounts.specs.Account.{AccountRecord}
+use Rattle.krb_realm_accounts.specs.Account.{AccountRecord}
 use Rattle.krb_messages.specs.declared.data_types.principal_name.PrincipalName.{PrincipalName}
 use Rattle.krb_messages.specs.RandomBytes.{Random}
 use Rattle.krb_messages.specs.Refusals.{Code}

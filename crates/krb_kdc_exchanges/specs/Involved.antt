@@ -3,7 +3,7 @@ use Rattle.std.specs.Prelude.{◌≡◌, ◌⊎◌, List, Option, Some}
 use Rattle.picky_asn1.specs.Bytes.{Bytes}
 use Rattle.krb_messages.specs.declared.messages.kdc_req.KdcReq.{KdcReq}
 use Rattle.krb_messages.specs.declared.data_types.principal_name.PrincipalName.{PrincipalName}
-use Rattle.krb_accounts.specs.Accounts.{Look}
+use Rattle.krb_realm_accounts.specs.Accounts.{Look}
 use Rattle.krb_kdc_exchanges.specs.Rows.{PkinitRows}
 use Rattle.krb_messages.specs.Names.{components}
 use Rattle.krb_messages.specs.Messages.{IsAsReq, IsTgsReq}

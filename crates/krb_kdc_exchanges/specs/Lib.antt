@@ -1,3 +1,5 @@
+pub mod Times
+pub mod EncryptedTimestamps
 pub mod PkinitCalls
 pub mod Rows
 pub mod Call
@@ -11,6 +13,7 @@ pub mod TgsTable
 pub mod SessionKeys
 pub mod ByTicket
 pub mod Errors
+pub mod Outcomes
 pub mod Replies
 pub mod Involved
 pub mod Judged

@@ -1,6 +1,6 @@
 -- How a client was authenticated, and the reply key that follows from it.
 use Rattle.std.specs.Prelude.{Result, Ok, Err}
-use Rattle.krb_accounts.specs.Account.{AccountRecord}
+use Rattle.krb_realm_accounts.specs.Account.{AccountRecord}
 use Rattle.krb_messages.specs.declared.refusal.Refusal.{Refusal}
 use Rattle.krb_tickets.specs.ReplyKeys.{ReplyKeyRecord, agreed_reply_key, as_reply_key}
 use Rattle.krb_kdc_exchanges.specs.declared.as_exchange.judge.Preauthentication.{Preauthentication}

@@ -6,7 +6,7 @@ use Rattle.krb_messages.specs.declared.messages.kdc_req.KdcReq.{KdcReq}
 use Rattle.krb_messages.specs.declared.data_types.principal_name.PrincipalName.{PrincipalName}
 use Rattle.krb_messages.specs.Refusals.{Code}
 use Rattle.krb_constants.specs.declared.error_codes.TheConstants.{KDC_ERR_PREAUTH_REQUIRED}
-use Rattle.krb_accounts.specs.Account.{AccountRecord}
+use Rattle.krb_realm_accounts.specs.Account.{AccountRecord}
 use Rattle.krb_kdc_exchanges.specs.Rows.{PkinitRows}
 use Rattle.decision_tables.specs.Tables.{Table, done, ask, make}
 use Rattle.krb_tickets.specs.MethodData.{method_data_bytes}

@@ -19,9 +19,9 @@ use Rattle.krb_messages.specs.declared.messages.kdc_req.KdcReq.{KdcReq}
 use Rattle.krb_messages.specs.declared.messages.kdc_req_body.KdcReqBody.{KdcReqBody}
 use Rattle.decision_tables.specs.One.{IsSole}
 use Rattle.decision_tables.specs.Tables.{Table, done, make, refuse}
-use Rattle.krb_accounts.specs.Account.{AccountRecord}
-use Rattle.krb_accounts.specs.Accounts.{Look}
-use Rattle.krb_tickets.specs.Times.{end_of, start_of}
+use Rattle.krb_realm_accounts.specs.Account.{AccountRecord}
+use Rattle.krb_realm_accounts.specs.Accounts.{Look}
+use Rattle.krb_kdc_exchanges.specs.Times.{end_of, start_of}
 use Rattle.krb_kdc_exchanges.specs.declared.span.Span.{Span}
 
 -- one of forwarded, proxy, enc-tkt-in-skey, renew and validate (RFC 4120, section 5.4.1)
@@ -49,10 +49,6 @@ account_of look (Some name) = look (components name)
 -- the body of a request
 abbrev pub body_of : KdcReq → KdcReqBody
 body_of request = request.req_body.0
-
--- the padata of a request
-abbrev pub padata_in : KdcReq → List PaData
-padata_in request = option_map_or (λ tagged. tagged.0) request.padata.0 []
 
 -- the request is of this message type, to this realm, and without an option that the realm doesn't grant
 -- Ignored: other options (forwardable, proxiable, allow-postdate, renewable, renewable-ok, ..) (RFC 4120, section 5.4.1). Test:

@@ -14,8 +14,8 @@ use Rattle.krb_crypto.specs.declared.suite.CipherSuite.TheVariants.{Des3CbcSha1K
 use Rattle.krb_crypto.specs.declared.suite.ChecksumSuite.{ChecksumSuite}
 use Rattle.krb_crypto.specs.Sealing.{checksum_of}
 use Rattle.krb_crypto.specs.Suites.{checksum_number, checksum_suites, cipher_checksum, cipher_number, cipher_suites}
-use Rattle.krb_accounts.specs.Account.{AccountRecord}
-use Rattle.krb_accounts.specs.declared.policy.Policy.{Policy}
+use Rattle.krb_realm_accounts.specs.Account.{AccountRecord}
+use Rattle.krb_realm_accounts.specs.declared.policy.Policy.{Policy}
 use Rattle.krb_messages.specs.Names.{components, is_same_realm}
 use Rattle.krb_messages.specs.declared.data_types.authenticator.AuthenticatorInner.{AuthenticatorInner}
 use Rattle.krb_messages.specs.declared.data_types.checksum.Checksum.{Checksum}
@@ -36,7 +36,7 @@ use Rattle.krb_messages.specs.declared.messages.kdc_req.KdcReq.{KdcReq}
 use Rattle.krb_messages.specs.declared.messages.kdc_req_body.KdcReqBody.{KdcReqBody}
 use Rattle.krb_messages.specs.Messages.{IsApReq, sole_ap_req}
 use Rattle.decision_tables.specs.Tables.{Table, and_then, ask, done, need, refuse}
-use Rattle.krb_tickets.specs.Padata.{first_of}
+use Rattle.krb_messages.specs.Padata.{first_of}
 use Rattle.krb_tickets.specs.Grant.{GrantRecord}
 use Rattle.krb_tickets.specs.Parts.{session_key_of}
 use Rattle.krb_tickets.specs.ReplyKeys.{ReplyKeyRecord, tgs_reply_key, tgs_subkey_reply_key}
@@ -44,7 +44,8 @@ use Rattle.krb_ap_requests.specs.ApTable.{ap_fields, authenticated, enc_part_in,
 use Rattle.krb_ap_requests.specs.declared.presented.Authenticated.{Authenticated}
 use Rattle.krb_kdc_exchanges.specs.Call.{CallRecord, skew_of}
 use Rattle.krb_kdc_exchanges.specs.Granting.{replied}
-use Rattle.krb_kdc_exchanges.specs.Requests.{body_of, header_rows, padata_in, lasting, service_of}
+use Rattle.krb_kdc_exchanges.specs.Requests.{body_of, header_rows, lasting, service_of}
+use Rattle.krb_messages.specs.Padata.{padata_in}
 use Rattle.krb_messages.specs.Bodies.{body_bytes}
 use Rattle.krb_messages.specs.TicketGranting.{krbtgt_of}
 use Rattle.krb_kdc_exchanges.specs.declared.span.Span.{Span}

@@ -3,72 +3,52 @@ ghost use Rattle.std.specs.Prelude.{◌≡◌, ◌%◌, None, Some, IfOk};
 ghost use Rattle.std.specs.Option.{option_copied, option_map};
 ghost use Rattle.krb_messages.specs.RandomBytes.{AreEnoughForReply};
 ghost use Rattle.asn1_leaves.specs.declared.date.GeneralizedTime.{GeneralizedTime};
-ghost use Rattle.krb_accounts.specs.Accounts.{look_in};
+ghost use Rattle.krb_realm_accounts.specs.Accounts.{look_in};
 ghost use Rattle.krb_kdc_exchanges.specs.AsTable.{as_table};
 ghost use Rattle.krb_kdc_exchanges.specs.Call.{call_of};
 ghost use Rattle.krb_kdc_exchanges.specs.Requests.{account_of, body_of, client_of, service_of};
 ghost use Rattle.krb_kdc_exchanges.specs.TgsTable.{tgs_table};
 ghost use Rattle.krb_kdc_exchanges.specs.Errors.{error_bytes};
 ghost use Rattle.krb_time.specs.SecondOf.{IsSecondOf};
-ghost use Rattle.krb_kdc_exchanges.specs.Judged.{IsAnswerWith, IsJudgement};
+ghost use Rattle.krb_kdc_exchanges.specs.Judged.{IsAnswerWith, IsJudgement, outcome_of};
+ghost use Rattle.krb_kdc_exchanges.specs.Outcomes.{IsOutcome};
 ghost use Rattle.krb_kdc_exchanges.specs.Replies.{as_reply, e_data_of, named_service, tgs_reply};
 
 use crate::error::error_message;
 use crate::kdc_error::KdcError;
 use crate::names::ticket_service;
-use crate::{Call, Pkinit, account_of, client_of, judge_as, judge_tgs, service_of};
-use krb_accounts::Account;
+use crate::{Call, Granted, Pkinit, Reply, account_of, client_of, judge_as, judge_tgs, service_of};
 use krb_constants::error_codes;
 use krb_messages::Refusal;
 use krb_messages::data_types::PrincipalName;
 use krb_messages::messages::KdcReq;
+use krb_realm_accounts::Account;
 use krb_tickets::method_data;
 use std::alloc::{AllocError, Global};
 
 /// The reply to an AS request: a ticket, or the KRB-ERROR with its code (RFC 4120, section 3.1; RFC 4556, section 3.1). `pkinit`
-/// judges a request by certificate. The request is borrowed below, so that it is dropped once.
+/// judges a request by certificate.
 pub fn as_reply<P: Pkinit>(
     alloc: Global,
     call: &Call<'_>,
     pkinit: &P,
-    request: KdcReq,
-) -> Result<Vec<u8>, AllocError>
-    requires { AreEnoughForReply call.now.words.now }
-    ensures { IfOk result (λ bytes. (as_reply (call_of call.now) (P.rows pkinit.now)
-        (account_of (look_in call.now.accounts.now) (client_of (body_of request)))
-        (account_of (look_in call.now.accounts.now) (service_of (body_of request))) request).gives (Some bytes.items)) }
-{
-    as_reply_to(alloc, call, pkinit, &request)
-}
-
-/// The reply to a TGS request: a ticket, or the KRB-ERROR with its code (RFC 4120, section 3.3). The request is borrowed below.
-pub fn tgs_reply(alloc: Global, call: &Call<'_>, request: KdcReq) -> Result<Vec<u8>, AllocError>
-    requires { AreEnoughForReply call.now.words.now }
-    ensures { IfOk result (λ bytes. (tgs_reply (call_of call.now) request).gives (Some bytes.items)) }
-{
-    tgs_reply_to(alloc, call, &request)
-}
-
-// The reply to a borrowed AS request.
-fn as_reply_to<P: Pkinit>(
-    alloc: Global,
-    call: &Call<'_>,
-    pkinit: &P,
     request: &KdcReq,
-) -> Result<Vec<u8>, AllocError>
+) -> Result<Reply, AllocError>
     requires { AreEnoughForReply call.now.words.now }
-    ensures { IfOk result (λ bytes. (as_reply (call_of call.now) (P.rows pkinit.now)
+    ensures reply { IfOk result (λ reply. (as_reply (call_of call.now) (P.rows pkinit.now)
         (account_of (look_in call.now.accounts.now) (client_of (body_of request.now)))
-        (account_of (look_in call.now.accounts.now) (service_of (body_of request.now))) request.now).gives (Some bytes.items)) }
+        (account_of (look_in call.now.accounts.now) (service_of (body_of request.now))) request.now).gives (Some reply.bytes.items)) }
+    ensures outcome { IfOk result (λ reply. IsOutcome reply.bytes.items reply.outcome) }
 {
     let judged = as_judgement(alloc, call, pkinit, request)?;
     judged_reply(alloc, call, request, judged)
 }
 
-// The reply to a borrowed TGS request.
-fn tgs_reply_to(alloc: Global, call: &Call<'_>, request: &KdcReq) -> Result<Vec<u8>, AllocError>
+/// The reply to a TGS request: a ticket, or the KRB-ERROR with its code (RFC 4120, section 3.3).
+pub fn tgs_reply(alloc: Global, call: &Call<'_>, request: &KdcReq) -> Result<Reply, AllocError>
     requires { AreEnoughForReply call.now.words.now }
-    ensures { IfOk result (λ bytes. (tgs_reply (call_of call.now) request.now).gives (Some bytes.items)) }
+    ensures reply { IfOk result (λ reply. (tgs_reply (call_of call.now) request.now).gives (Some reply.bytes.items)) }
+    ensures outcome { IfOk result (λ reply. IsOutcome reply.bytes.items reply.outcome) }
 {
     let judged = tgs_judgement(alloc, call, request)?;
     judged_reply(alloc, call, request, judged)
@@ -79,15 +59,23 @@ fn judged_reply(
     alloc: Global,
     call: &Call<'_>,
     request: &KdcReq,
-    judged: Result<Vec<u8>, KdcError>,
-) -> Result<Vec<u8>, AllocError>
-    ensures { IfOk result (λ bytes. IsAnswerWith (call_of call.now) request.now judged bytes.items) }
+    judged: Result<Granted, KdcError>,
+) -> Result<Reply, AllocError>
+    ensures reply { IfOk result (λ reply. IsAnswerWith (call_of call.now) request.now judged reply.bytes.items) }
+    ensures outcome { IfOk result (λ reply. reply.outcome ≡ outcome_of judged) }
 {
     match judged {
-        Ok(reply) => Ok(reply),
+        Ok(made) => Ok(Reply {
+            bytes: made.reply,
+            outcome: Ok(made.ticket),
+        }),
         Err(kdc_error) => {
-            let reply = error_reply(alloc, call, service_of(&request.req_body.0), kdc_error)?;
-            Ok(reply)
+            let code = kdc_error.code;
+            let bytes = error_reply(alloc, call, service_of(&request.req_body.0), kdc_error)?;
+            Ok(Reply {
+                bytes,
+                outcome: Err(code),
+            })
         }
     }
 }
@@ -98,7 +86,7 @@ fn as_judgement<P: Pkinit>(
     call: &Call<'_>,
     pkinit: &P,
     request: &KdcReq,
-) -> Result<Result<Vec<u8>, KdcError>, AllocError>
+) -> Result<Result<Granted, KdcError>, AllocError>
     requires { AreEnoughForReply call.now.words.now }
     ensures { IfOk result (λ judged. IsJudgement (as_table (call_of call.now) (P.rows pkinit.now)
         (account_of (look_in call.now.accounts.now) (client_of (body_of request.now)))
@@ -109,7 +97,7 @@ fn as_judgement<P: Pkinit>(
     let client = account_of(call.accounts, client_of(body));
     let service = account_of(call.accounts, service_of(body));
     match judge_as(alloc, call, pkinit, client, service, request) {
-        Ok(reply) => Ok(Ok(reply)),
+        Ok(made) => Ok(Ok(made)),
         Err(Refusal::Memory) => Err(AllocError),
         Err(Refusal::Krb(code)) => {
             let e_data = e_data_of(alloc, pkinit.is_offered(), client, code)?;
@@ -123,12 +111,12 @@ fn tgs_judgement(
     alloc: Global,
     call: &Call<'_>,
     request: &KdcReq,
-) -> Result<Result<Vec<u8>, KdcError>, AllocError>
+) -> Result<Result<Granted, KdcError>, AllocError>
     requires { AreEnoughForReply call.now.words.now }
     ensures { IfOk result (λ judged. IsJudgement (tgs_table (call_of call.now) request.now).gives (λ code. None) judged) }
 {
     match judge_tgs(alloc, call, request) {
-        Ok(reply) => Ok(Ok(reply)),
+        Ok(made) => Ok(Ok(made)),
         Err(Refusal::Memory) => Err(AllocError),
         Err(Refusal::Krb(code)) => Ok(Err(KdcError { code, e_data: None })),
     }

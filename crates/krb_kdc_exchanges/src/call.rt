@@ -2,7 +2,7 @@
 ghost use Rattle.std.specs.Prelude.{◌≡◌};
 ghost use Rattle.krb_time.specs.Skew.{IsWithinDay};
 
-use krb_accounts::{Accounts, Settings};
+use krb_realm_accounts::{Accounts, Settings};
 use krb_time::{MICROSECONDS_IN_SECOND, Moment};
 use picky_asn1::wrapper::GeneralStringAsn1;
 

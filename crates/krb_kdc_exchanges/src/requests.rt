@@ -2,25 +2,26 @@
 ghost use Rattle.std.specs.Prelude.{◌≡◌, IfOk};
 ghost use Rattle.std.specs.Option.{option_copied, option_map};
 ghost use Rattle.krb_messages.specs.RandomBytes.{AreEnoughForReply};
-ghost use Rattle.krb_accounts.specs.Accounts.{look_in};
-ghost use Rattle.krb_kdc_exchanges.specs.Requests.{account_of, header_rows, client_of, padata_in, has_refused_option, is_ended, is_postdated, lasting, service_of};
+ghost use Rattle.krb_realm_accounts.specs.Accounts.{look_in};
+ghost use Rattle.krb_kdc_exchanges.specs.Requests.{account_of, header_rows, client_of, has_refused_option, is_ended, is_postdated, lasting, service_of};
+ghost use Rattle.krb_messages.specs.Padata.{padata_in};
 ghost use Rattle.krb_tickets.specs.Parts.{session_key_of};
 ghost use Rattle.krb_messages.specs.Refusals.{IsJudged};
 ghost use Rattle.asn1_leaves.specs.GeneralizedTime.{seconds_of};
 
 use crate::span::Span;
-use krb_accounts::{Account, Accounts, Settings};
+use crate::{end_of, start_of};
 use krb_constants::types::KERBEROS_VERSION;
 use krb_constants::{error_codes, kdc_options};
 use krb_crypto::CipherSuite;
-use krb_messages::data_types::{PaData, PrincipalName};
+use krb_messages::data_types::PrincipalName;
 use krb_messages::messages::{KdcReq, KdcReqBody};
 use krb_messages::random_bytes::SESSION_SEED;
-use krb_messages::{Refusal, is_same_realm};
-use krb_tickets::{end_of, key_at, start_of};
+use krb_messages::{Refusal, is_number, is_same_realm};
+use krb_realm_accounts::{Account, Accounts, Settings};
+use krb_tickets::key_at;
 use krb_time::Moment;
 use picky_asn1::date::GeneralizedTime;
-use picky_asn1::is_number;
 use picky_asn1::wrapper::{BitStringAsn1, GeneralStringAsn1, OctetStringAsn1};
 use std::alloc::{AllocError, Global};
 
@@ -89,6 +90,26 @@ pub fn service_of(body: &KdcReqBody) -> Option<&PrincipalName>
     }
 }
 
+/// The principals that a request names.
+#[derive(Clone, Copy)]
+pub struct NamedPrincipals<'a> {
+    /// The client.
+    pub client: Option<&'a PrincipalName>,
+    /// The service.
+    pub service: Option<&'a PrincipalName>,
+}
+
+/// The client and the service that the body names, each if it does.
+pub fn named_in(body: &KdcReqBody) -> NamedPrincipals<'_>
+    ensures client { option_copied result.client ≡ client_of body.now }
+    ensures service { option_copied result.service ≡ service_of body.now }
+{
+    NamedPrincipals {
+        client: client_of(body),
+        service: service_of(body),
+    }
+}
+
 /// The account of a name, or none where no name is given or the name has no account.
 pub fn account_of<'a>(accounts: &'a Accounts, name: Option<&PrincipalName>) -> Option<&'a Account>
     ensures { option_copied result ≡ account_of (look_in accounts.now) (option_copied name.entry) }
@@ -97,16 +118,6 @@ pub fn account_of<'a>(accounts: &'a Accounts, name: Option<&PrincipalName>) -> O
         return None;
     };
     accounts.get(name.name_string.0.as_slice())
-}
-
-/// The padata of a request.
-pub fn padata_in(request: &KdcReq) -> &[PaData]
-    ensures { result.now ≡ padata_in request.now }
-{
-    match &request.padata.0 {
-        Some(tagged) => tagged.0.as_slice(),
-        None => &[],
-    }
 }
 
 /// The starttime and endtime of a ticket that is granted at a moment. `old` is the presented ticket's endtime, in a TGS

@@ -1,3 +1,3 @@
-mod Told
 mod Visible
 mod OneComponent
+mod SeenEntries

@@ -1,15 +1,14 @@
 -- The text of an entry: exchange, client, service, answer, the client's means and the reason, with a blank between them.
-use Rattle.std.specs.Prelude.{◌≡◌, ℕ, ◌==◌, if◌then◌else◌, List, [], ◌++◌, codes, Option, None, Some, string_bytes, String, refl}
+use Rattle.std.specs.Prelude.{ℕ, List, [], ◌++◌, codes, Option, None, Some, string_bytes, String}
 use Rattle.std.specs.Global.{Global}
 use Rattle.std.specs.Fmt.{decimal}
-use Rattle.picky_asn1.specs.IntegerText.{integer_text}
+use Rattle.krb_crypto.specs.Suites.{cipher_number}
 use Rattle.krb_constants.specs.ErrorNames.{error_name}
-use Rattle.krb_constants.specs.declared.error_codes.TheConstants.{KDC_ERR_PREAUTH_FAILED}
 use Rattle.krb_frames.specs.declared.fault.AnswerRefusal.{AnswerRefusal}
+use Rattle.krb_kdc_exchanges.specs.declared.granted.GrantedTicket.{GrantedTicket}
 use Rattle.krb_frames.specs.declared.fault.AnswerRefusal.TheVariants.{Unreadable, Memory, Accounts}
 use Rattle.krb_log.specs.declared.answer.Answer.{Answer}
-use Rattle.krb_log.specs.declared.answer.Answer.TheVariants.{Ticket, Error, Other, Refused}
-use Rattle.krb_log.specs.declared.answer.Granted.{Granted}
+use Rattle.krb_log.specs.declared.answer.Answer.TheVariants.{Ticket, Error, Refused}
 use Rattle.krb_log.specs.declared.asked.Asked.{Asked}
 use Rattle.krb_log.specs.declared.asked.Asked.TheVariants.{As, Tgs, Nothing}
 use Rattle.krb_log.specs.declared.asked.Means.{Means}
@@ -30,29 +29,11 @@ exchange_text (As names) = codes "AS"
 exchange_text (Tgs names) = codes "TGS"
 exchange_text Nothing = codes "-"
 
+-- the client, or a dash
 abbrev pub asked_client : Asked → List ℕ
 asked_client (As names) = shown_or_dash names.client
 asked_client (Tgs names) = shown_or_dash names.client
 asked_client Nothing = codes "-"
-
--- the client of a presented ticket, else the one that the request names
-abbrev pub told_client : Asked → Option (String Global) → List ℕ
-told_client asked None = asked_client asked
-told_client asked (Some client) = string_bytes client
-
-abbrev pub client_text_by : Answer → Asked → Option (String Global) → List ℕ
-client_text_by (Ticket granted) asked told = string_bytes granted.client
-client_text_by _ asked told = told_client asked told
-
--- the client of a granted ticket, else of the presented one, else the one that the request names
-abbrev pub client_text : Entry → List ℕ
-client_text entry = client_text_by entry.answer entry.asked entry.explanation.client
-
--- the error code of a refusal of which more can be told: of each to a TGS request, and of KDC_ERR_PREAUTH_FAILED to an AS request
-abbrev pub code_to_explain : Asked → Answer → Option ℕ
-code_to_explain (Tgs names) (Error code) = Some code
-code_to_explain (As names) (Error code) = if code == KDC_ERR_PREAUTH_FAILED then Some code else None
-code_to_explain _ _ = None
 
 -- the service that was asked for, or a dash
 abbrev pub service_text : Asked → List ℕ
@@ -61,8 +42,8 @@ service_text (Tgs names) = shown_or_dash names.service
 service_text Nothing = codes "-"
 
 -- the encryption types of the ticket and of the reply's part
-abbrev pub granted_text : Granted → List ℕ
-granted_text granted = codes "ticket=" ++ integer_text granted.ticket_etype ++ codes " reply=" ++ integer_text granted.reply_etype
+abbrev pub granted_text : GrantedTicket → List ℕ
+granted_text ticket = codes "ticket=" ++ decimal (cipher_number ticket.suite) ++ codes " reply=" ++ decimal (cipher_number ticket.reply_suite)
 
 abbrev pub name_or_number : ℕ → Option (List ℕ) → List ℕ
 name_or_number code None = decimal code
@@ -79,9 +60,8 @@ refusal_text Memory = codes "no-memory"
 refusal_text Accounts = codes "no-accounts"
 
 abbrev pub answer_text : Answer → List ℕ
-answer_text (Ticket granted) = granted_text granted
+answer_text (Ticket ticket) = granted_text ticket
 answer_text (Error code) = codes "error=" ++ code_text code
-answer_text Other = codes "other"
 answer_text (Refused refusal) = refusal_text refusal
 
 -- how the client of an AS request authenticates itself
@@ -108,5 +88,5 @@ means_part by reason = codes "by=" ++ by ++ reason_part reason
 -- An entry's text.
 abbrev pub entry_text : Entry → List ℕ
 entry_text entry =
-    exchange_text entry.asked ++ codes " " ++ client_text entry ++ codes " " ++ service_text entry.asked
-    ++ codes " " ++ answer_text entry.answer ++ codes " " ++ means_part (by_text entry.asked) entry.explanation.reason
+    exchange_text entry.asked ++ codes " " ++ asked_client entry.asked ++ codes " " ++ service_text entry.asked
+    ++ codes " " ++ answer_text entry.answer ++ codes " " ++ means_part (by_text entry.asked) entry.reason

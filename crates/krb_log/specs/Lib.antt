@@ -1,6 +1,6 @@
 pub mod NameText
 pub mod Reasons
-pub mod Explanations
+pub mod SeenReasons
 pub mod Asked
 pub mod Answers
 pub mod Entries

@@ -1,49 +1,43 @@
--- The text of names in a line: printable ASCII without a blank, components with `/` between them, then `@` and the realm.
-use Rattle.std.specs.Prelude.{◌≡◌, ℕ, ◌/◌, ◌%◌, ◌||◌, ◌==◌, nat_le, Bool, IsTrue, if◌then◌else◌, List, [], ◌∷◌, ◌++◌, length, codes, refl, false}
+-- The text of names in a line: that of RFC 1964, in which a blank and what isn't printable ASCII are `\x` and two hexadecimal digits.
+use Rattle.std.specs.Prelude.{◌≡◌, ℕ, ◌/◌, ◌%◌, nat_le, IsTrue, if◌then◌else◌, List, [], ◌∷◌, ◌++◌, length, codes, refl, false}
 use Rattle.std.specs.List.{flat_map, list_all}
 use Rattle.std.specs.Char.{encode_utf8, is_ascii_graphic}
 use Rattle.std.specs.Fmt.{digits}
 use Rattle.picky_asn1.specs.Bytes.{Bytes}
+use Rattle.krb_messages.specs.NameText.{component_text, name_text, principal_text}
 use Rattle.krb_log.specs.declared.name.TheConstants.{LONG_NAME, NAME_ROOM}
 
--- `/`, `@` and the backslash have a meaning in the text of a name
-abbrev pub is_mark : ℕ → Bool
-is_mark character = character == 47 || character == 64 || character == 92
+-- An octet of a name's text. A blank, and what isn't printable ASCII, is `\x` with two hexadecimal digits.
+abbrev pub shown_octet : ℕ → List ℕ
+shown_octet octet =
+    if is_ascii_graphic octet then encode_utf8 octet
+    else (codes "\\x" ++ digits 16 false (octet / 16) ++ digits 16 false (octet % 16))
 
--- A character of a name: with a backslash before `/`, `@` and a backslash, and as `\x` with two hexadecimal digits if it is a blank, or
--- isn't printable ASCII.
-abbrev pub escaped : ℕ → List ℕ
-escaped character =
-    if is_mark character then 92 ∷ encode_utf8 character
-    else (if is_ascii_graphic character then encode_utf8 character
-    else (codes "\\x" ++ digits 16 false (character / 16) ++ digits 16 false (character % 16)))
+-- the text of a name, or of a part of one
+abbrev pub shown_text : List ℕ → List ℕ
+shown_text = flat_map shown_octet
 
 -- a component, or a realm
-abbrev pub component_text : Bytes → List ℕ
-component_text = flat_map escaped
+abbrev pub shown_component : Bytes → List ℕ
+shown_component component = shown_text (component_text component)
 
--- the components of a name
-abbrev pub name_text : List Bytes → List ℕ
-name_text [] = []
-name_text (component ∷ components) = component_text component ++ flat_map (λ further. 47 ∷ component_text further) components
+-- a text, or `(long)` where it has more than 512 octets
+abbrev pub fitting : List ℕ → List ℕ
+fitting text = if nat_le (length text) NAME_ROOM then text else LONG_NAME.now
 
--- a name in its realm, as `host/server@REALM`
-abbrev pub principal_text : List Bytes → Bytes → List ℕ
-principal_text components realm = name_text components ++ 64 ∷ component_text realm
-
--- a name in its realm, or `(long)` where its text has more than 512 octets
+-- a name in its realm
 abbrev pub shown_name : List Bytes → Bytes → List ℕ
-shown_name components realm = if nat_le (length (principal_text components realm)) NAME_ROOM then principal_text components realm else LONG_NAME.now
+shown_name components realm = fitting (shown_text (principal_text components realm))
 
 -- each character is printable ASCII, and none is a blank
 abbrev pub IsVisible : List ℕ → Type 0
 IsVisible text = IsTrue (list_all is_ascii_graphic text)
 
-pub principal_text-host : principal_text (codes "host" ∷ codes "www.example.com" ∷ []) (codes "EXAMPLE.COM") ≡ codes "host/www.example.com@EXAMPLE.COM"
+pub shown_text-host : shown_text (principal_text (codes "host" ∷ codes "www.example.com" ∷ []) (codes "EXAMPLE.COM")) ≡ codes "host/www.example.com@EXAMPLE.COM"
 unfolding encode_utf8
-principal_text-host = refl
+shown_text-host = refl
 
--- worked: marks, a blank, and a line break
-pub name_text-marks : name_text (codes "a/b@c\\" ∷ codes "d e" ∷ (10 ∷ []) ∷ []) ≡ codes "a\\/b\\@c\\\\/d\\x20e/\\x0a"
+-- worked: marks, a blank, a line break, and an escape
+pub shown_text-marks : shown_text (name_text (codes "a/b@c\\" ∷ codes "d e" ∷ (10 ∷ []) ∷ (27 ∷ []) ∷ [])) ≡ codes "a\\/b\\@c\\\\/d\\x20e/\\n/\\x1b"
 unfolding encode_utf8 digits
-name_text-marks = refl
+shown_text-marks = refl

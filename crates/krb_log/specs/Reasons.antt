@@ -7,7 +7,7 @@ use Rattle.picky_asn1.specs.Bytes.{Bytes}
 use Rattle.picky_asn1.specs.Numbers.{is_number}
 use Rattle.decision_tables.specs.One.{IsSole}
 use Rattle.decision_tables.specs.Tables.{Table, as_made, ask, done}
-use Rattle.krb_accounts.specs.Account.{AccountRecord}
+use Rattle.krb_realm_accounts.specs.Account.{AccountRecord}
 use Rattle.krb_ap_requests.specs.ApTable.{authenticated}
 use Rattle.krb_ap_requests.specs.declared.presented.Authenticated.{Authenticated}
 use Rattle.krb_constants.specs.KeyUsages.{key_usage}
@@ -16,10 +16,11 @@ use Rattle.krb_constants.specs.declared.key_usages.TheConstants.{TGS_REQ_PA_DATA
 use Rattle.krb_constants.specs.declared.padata_types.TheConstants.{PA_ENC_TIMESTAMP, PA_PK_AS_REQ}
 use Rattle.krb_crypto.specs.Suites.{cipher_number}
 use Rattle.krb_tickets.specs.Keys.{suite_of}
-use Rattle.krb_kdc_exchanges.specs.Requests.{body_of, padata_in}
+use Rattle.krb_kdc_exchanges.specs.Requests.{body_of}
+use Rattle.krb_messages.specs.Padata.{padata_in}
 use Rattle.krb_messages.specs.declared.messages.kdc_req.KdcReq.{KdcReq}
-use Rattle.krb_tickets.specs.EncryptedTimestamps.{IsEncryptedTimestamp, moment_of, sole_encrypted_timestamp}
-use Rattle.krb_tickets.specs.Padata.{first_of}
+use Rattle.krb_kdc_exchanges.specs.EncryptedTimestamps.{IsEncryptedTimestamp, moment_of, sole_encrypted_timestamp}
+use Rattle.krb_messages.specs.Padata.{first_of}
 use Rattle.krb_messages.specs.Trees as held
 use Rattle.krb_messages.specs.declared.data_types.encrypted_data.EncryptedData.{EncryptedData}
 use Rattle.krb_messages.specs.declared.data_types.enc_ticket_part.EncTicketPartInner.{EncTicketPartInner}
@@ -102,7 +103,3 @@ reason_of_outcome part (Err code) = refused_reason part code
 abbrev pub authenticator_reason : EncTicketPartInner → EncryptedData → Table Reason
 authenticator_reason part encrypted =
     as_made (reason_of_outcome part) (authenticated (key_usage TGS_REQ_PA_DATA_AP_REQ_AUTHENTICATOR) part encrypted)
-
--- the reason, if the code is KRB_AP_ERR_BAD_INTEGRITY
-abbrev pub of_integrity : ℕ → Reason → Option Reason
-of_integrity code reason = if code == KRB_AP_ERR_BAD_INTEGRITY then Some reason else None

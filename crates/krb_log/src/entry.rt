@@ -1,57 +1,58 @@
 //! An entry of the log.
 ghost use Rattle.std.specs.Prelude.{◌≡◌, IfOk};
-ghost use Rattle.krb_log.specs.Entries.{IsEntry};
-ghost use Rattle.krb_log.specs.EntryText.{asked_client, by_text, client_text, code_to_explain, exchange_text, means_text, refusal_text, service_text, shown_or_dash};
+ghost use Rattle.krb_log.specs.Entries.{IsEntryOf, IsRefusalEntry};
+ghost use Rattle.krb_log.specs.EntryText.{asked_client, by_text, exchange_text, means_text, refusal_text, service_text, shown_or_dash};
 
-use crate::answer::{Answer, Granted};
-use crate::asked::{Asked, Means, Names};
-use crate::explanation::Explanation;
+use crate::answer::Answer;
+use crate::asked::{Asked, Means};
 use crate::reason::Reason;
-use krb_constants::error_codes::KDC_ERR_PREAUTH_FAILED;
+use crate::seen_reason::seen_reason;
 use krb_constants::error_names::error_name;
 use krb_frames::AnswerRefusal;
+use krb_kdc::Seen;
+use krb_kdc_exchanges::GrantedTicket;
 use std::alloc::{AllocError, Global};
 use std::fmt;
 
-/// What a message asked for, what it was answered, and what is told of a refusal.
+/// What a message asked for, what it was answered, and why it was refused.
 #[derive(Debug, Drop)]
 pub struct Entry {
     /// What it asked for.
     pub asked: Asked,
     /// What it was answered.
     pub answer: Answer,
-    /// What is told of a refused request beside its error code.
-    pub explanation: Explanation,
+    /// The reason of a refusal whose error code leaves that open.
+    pub reason: Option<Reason>,
 }
 
 impl Entry {
-    /// Returns the entry of a message and what it was answered, without an explanation. It fails only if memory runs out.
-    pub fn of(
-        alloc: Global,
-        message: &[u8],
-        answered: &Result<Vec<u8>, AnswerRefusal>,
-    ) -> Result<Entry, AllocError>
-        ensures { IfOk result (IsEntry message.now answered.now) }
+    /// Returns the entry of what was seen of a request and of its reply. It fails only if memory runs out.
+    pub fn of_seen(alloc: Global, seen: &Seen<'_>) -> Result<Entry, AllocError>
+        ensures { IfOk result (IsEntryOf seen.now) }
     {
-        let asked = Asked::of(alloc, message)?;
-        let answer = Answer::of(alloc, answered)?;
+        let reason = seen_reason(alloc, seen)?;
+        let asked = Asked::of_seen(alloc, &seen.request)?;
         Ok(Entry {
             asked,
-            answer,
-            explanation: Explanation::none(),
+            answer: Answer::of_outcome(seen.outcome),
+            reason,
         })
     }
 
-    /// Returns the error code of a refusal of which more can be told: of each to a TGS request, and of KDC_ERR_PREAUTH_FAILED to an AS
-    /// request.
-    pub fn code_to_explain(&self) -> Option<u32>
-        ensures { result ≡ code_to_explain self.now.asked self.now.answer }
+    /// Returns the entry of a message without a reply, which is read for it. It fails only if memory runs out.
+    pub fn of_refusal(
+        alloc: Global,
+        message: &[u8],
+        refusal: AnswerRefusal,
+    ) -> Result<Entry, AllocError>
+        ensures { IfOk result (IsRefusalEntry message.now refusal) }
     {
-        match (&self.asked, &self.answer) {
-            (Asked::Tgs(_), Answer::Error(code)) => Some(*code),
-            (Asked::As(_), Answer::Error(code)) if *code == KDC_ERR_PREAUTH_FAILED => Some(*code),
-            _ => None,
-        }
+        let asked = Asked::of(alloc, message)?;
+        Ok(Entry {
+            asked,
+            answer: Answer::Refused(refusal),
+            reason: None,
+        })
     }
 }
 
@@ -64,12 +65,12 @@ impl fmt::Display for Entry {
 
     fn fmt<W: fmt::Write>(&self, f: &mut fmt::Formatter<W>) -> fmt::Result {
         let exchange = exchange_of(&self.asked);
-        let client = client_of(self);
+        let client = asked_client(&self.asked);
         let service = service_of(&self.asked);
         let answer = &self.answer;
         let means = MeansPart {
             by: by_text(&self.asked),
-            reason: self.explanation.reason,
+            reason: self.reason,
         };
         write!(f, "{exchange} {client} {service} {answer} {means}")
     }
@@ -84,26 +85,32 @@ impl fmt::Display for Answer {
 
     fn fmt<W: fmt::Write>(&self, f: &mut fmt::Formatter<W>) -> fmt::Result {
         match self {
-            Answer::Ticket(granted) => write!(f, "{granted}"),
+            Answer::Ticket(ticket) => {
+                let ticket = TicketPart(*ticket);
+                write!(f, "{ticket}")
+            }
             Answer::Error(code) => {
                 let code = CodeName(*code);
                 write!(f, "error={code}")
             }
-            Answer::Other => f.write_str("other"),
             Answer::Refused(refusal) => f.write_str(refusal_text(*refusal)),
         }
     }
 }
 
-impl fmt::Display for Granted {
+// A ticket that was granted, which prints as the encryption types of the ticket and of the reply's part.
+#[derive(Clone, Copy)]
+struct TicketPart(GrantedTicket);
+
+impl fmt::Display for TicketPart {
     ghost use Rattle.std.specs.Prelude.{Some};
     ghost use Rattle.krb_log.specs.EntryText.{granted_text};
 
-    ghost output = { λ granted. Some (granted_text granted) };
+    ghost output = { λ part. Some (granted_text part.0) };
 
     fn fmt<W: fmt::Write>(&self, f: &mut fmt::Formatter<W>) -> fmt::Result {
-        let ticket = &self.ticket_etype;
-        let reply = &self.reply_etype;
+        let ticket = u32::from(&self.0.suite);
+        let reply = u32::from(&self.0.reply_suite);
         write!(f, "ticket={ticket} reply={reply}")
     }
 }
@@ -176,18 +183,7 @@ fn exchange_of(asked: &Asked) -> &'static str
     }
 }
 
-// Returns the client: of a granted ticket that of the reply, else that of the presented ticket, else that of the request, or `-`.
-fn client_of(entry: &Entry) -> &str
-    ensures { result.now ≡ client_text entry.now }
-{
-    match (&entry.answer, &entry.explanation.client) {
-        (Answer::Ticket(granted), _) => granted.client.as_str(),
-        (_, Some(client)) => client.as_str(),
-        (_, None) => asked_client(&entry.asked),
-    }
-}
-
-// Returns the client that a request names, or `-`.
+// Returns the client, or `-`.
 fn asked_client(asked: &Asked) -> &str
     ensures { result.now ≡ asked_client asked.now }
 {

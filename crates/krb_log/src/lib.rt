@@ -6,39 +6,40 @@
 //!     2026-11-27T21:30:01.000305Z - - - no-request by=- micros=3
 //!
 //! A line has the time, the exchange, the client, the service, the answer, how the client authenticates itself, and how many microseconds
-//! the answer took. The answer is the encryption types of the ticket and of the reply's part, or the error's name. Of a refused TGS request
-//! the client is that of its ticket, where the ticket opens. A reason stands behind two error codes that leave it open.
+//! the answer took. The answer is the encryption types of the ticket and of the reply's part, or the error's name. Of a TGS request the
+//! client is that of its ticket, where the ticket opens. Two error codes leave the reason open: the line has it.
 //!
-//! An [`Entry`] is what a message and its answer say: [`Entry::of`] reads both, and its contract names what each field is (`IsEntry`).
-//! What is displayed of an entry is known (`entry_text`). Each name in it is printable ASCII without a
-//! blank, two components are shown alike only if they are the same (`laws`), and a name that is too long is shown as `(long)`.
+//! An [`Entry`] is made of what the KDC saw of the request and of its reply ([`Entry::of_seen`], `IsEntryOf`): neither is read once more.
+//! Only a message without a reply is read for its entry. What is displayed of an entry is known (`entry_text`). Each name in it is printable
+//! ASCII without a blank, two components are shown alike only if they are the same (`laws`), and a name that is too long is shown as
+//! `(long)`. To find a reason an authenticator or a timestamp is decrypted once more. Nothing of a key is shown.
 //!
-//! [`explain`] returns what is told of a refusal beside its code: the client of the presented ticket, and the reason (`explained`). There
-//! alone a ticket or a timestamp is decrypted, and nothing of a key is told. [`Logged`] is a responder that writes such a line on standard error before it returns the reply, which no contract says. Its replies are
-//! those of the responder within.
+//! [`noted_answer`] returns the answer of a file's realm with an entry that is of this message and this reply (`IsEntry`). [`Logged`] is a
+//! responder that writes the line of that entry on standard error before it returns the reply, which no contract says. Its replies are those
+//! of the realm.
 #![tactic(auto)]
 
 mod answer;
 mod asked;
 mod entry;
-mod explains;
-mod explanation;
 pub mod laws;
 mod line;
 mod logged;
 mod name;
+mod noted;
 mod preauthentication;
 mod presented;
 mod reason;
+mod seen_reason;
 mod stamp;
+mod watch;
 
-pub use answer::{Answer, Granted};
+pub use answer::Answer;
 pub use asked::{Asked, Means, Names};
 pub use entry::Entry;
-pub use explains::{Explains, RefusalsOfFile};
-pub use explanation::{Explanation, explain};
 pub use line::Line;
 pub use logged::Logged;
 pub use name::{LONG_NAME, NAME_ROOM};
+pub use noted::{Noted, noted_answer};
 pub use reason::Reason;
 pub use stamp::Stamp;

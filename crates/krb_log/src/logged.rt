@@ -1,36 +1,39 @@
 //! A responder that logs.
 
 use crate::entry::Entry;
-use crate::explains::Explains;
 use crate::line::Line;
+use crate::noted::noted_answer;
 use crate::stamp::Stamp;
 use krb_frames::{AnswerRefusal, Responder};
+use krb_realm_files::{FaultReporter, FileRealm, Opens};
 use krb_time::Moment;
-use std::alloc::{AllocError, Global};
-use std::time::{Clock, Instant};
+use std::alloc::Global;
+use std::time::Clock;
 
-/// A responder with the replies of another one. It writes a line for each message on standard error, before it returns the reply: a frame
-/// loop writes the reply's frame after that.
+/// A responder with the replies of a file's realm. It writes a line for each message on standard error, before it returns the reply: a frame
+/// loop writes the reply's frame after that. The line is that of the entry that [`noted_answer`] returns.
 ///
-/// The line's time is the moment at which the message is answered. What is told of a refusal is found out after the answer, and isn't in
-/// the time that it took. If there is no memory for a line, one of fixed text is written in its place. If standard error takes nothing, the
-/// message is answered all the same.
+/// The line's time is the moment at which the message is answered. If there is no memory for a line, one of fixed text is written in its
+/// place. If standard error takes nothing, the message is answered all the same.
 #[derive(Clone, Copy)]
-pub struct Logged<'a, A: Responder, E: Explains, R: Eprint + Clock> {
-    /// The responder within.
-    pub responder: &'a A,
-    /// What explains its refusals.
-    pub refusals: &'a E,
+pub struct Logged<'a, O: Opens, T: FaultReporter, R: Eprint + Clock> {
+    /// What opens the file.
+    pub accounts: &'a O,
+    /// What reports why a file can't be used.
+    pub faults: &'a T,
     /// What has standard error and the clock.
     pub rt: &'a R,
 }
 
-impl<'a, A: Responder, E: Explains, R: Eprint + Clock> Responder for Logged<'a, A, E, R> {
-    ghost replies = { λ own. A.replies own.responder.now };
+impl<'a, O: Opens, T: FaultReporter, R: Eprint + Clock> Responder for Logged<'a, O, T, R> {
+    ghost use Rattle.krb_kdc.specs.Begins.{BeginsRequest};
+    ghost use Rattle.krb_realm_files.specs.Replies.{MayLack, RepliesFrom};
 
-    ghost may_want_memory = { λ own. A.may_want_memory own.responder.now };
+    ghost replies = { λ own. RepliesFrom (O.opens own.accounts.now) O.File.content };
 
-    ghost may_lack_accounts = { λ own. A.may_lack_accounts own.responder.now };
+    ghost may_want_memory = { λ _ message. BeginsRequest message };
+
+    ghost may_lack_accounts = { λ own. MayLack (O.opens own.accounts.now) (O.fails own.accounts.now) O.File.content O.File.fails };
 
     fn answer(
         &self,
@@ -39,40 +42,21 @@ impl<'a, A: Responder, E: Explains, R: Eprint + Clock> Responder for Logged<'a, 
         moment: Moment,
         words: &[u8],
     ) -> Result<Vec<u8>, AnswerRefusal> {
-        let start = Instant::now(self.rt).ok();
-        let answered = self.responder.answer(alloc, message, moment, words);
-        let micros = micros_since(self.rt, start);
+        let realm = FileRealm {
+            accounts: self.accounts,
+            faults: self.faults,
+        };
+        let noted = noted_answer(alloc, &realm, self.rt, message, moment, words);
         let stamp = Stamp::of(moment);
-        match entry_of(alloc, self.refusals, message, &answered) {
-            Ok(entry) => log(self.rt, stamp, micros, &entry),
+        match &noted.entry {
+            Ok(entry) => log(self.rt, stamp, noted.micros, entry),
             // Where standard error takes nothing, the message is answered all the same.
             Err(_) => {
                 let _ = eprintln!(self.rt; "{stamp} no memory for this line");
             }
         }
-        answered
+        noted.answered
     }
-}
-
-// Returns the microseconds since a start, or none if the clock can't be read.
-fn micros_since<C: Clock>(clock: &C, start: Option<Instant>) -> Option<u64> {
-    let elapsed = start?.elapsed(clock).ok()?;
-    let seconds = elapsed.as_secs().saturating_mul(1_000_000);
-    Some(seconds.saturating_add(u64::from(elapsed.subsec_micros())))
-}
-
-// Returns the entry of a message and its answer, with what is told of a refusal.
-fn entry_of<E: Explains>(
-    alloc: Global,
-    refusals: &E,
-    message: &[u8],
-    answered: &Result<Vec<u8>, AnswerRefusal>,
-) -> Result<Entry, AllocError> {
-    let mut entry = Entry::of(alloc, message, answered)?;
-    if let Some(code) = entry.code_to_explain() {
-        entry.explanation = refusals.explain(alloc, message, code);
-    }
-    Ok(entry)
 }
 
 // Writes the line of an entry.

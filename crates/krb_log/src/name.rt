@@ -1,9 +1,9 @@
 //! Names in a line.
 ghost use Rattle.std.specs.Prelude.{◌≡◌, IfOk, string_bytes};
 ghost use Rattle.krb_messages.specs.Names.{components};
-ghost use Rattle.krb_log.specs.NameText.{is_mark, shown_name};
+ghost use Rattle.krb_log.specs.NameText.{shown_name, shown_text};
 
-use krb_messages::data_types::{KerberosStringAsn1, PrincipalName, Realm};
+use krb_messages::data_types::{NameInRealm, PrincipalName, Realm};
 use std::alloc::{AllocError, Global};
 use std::fmt;
 
@@ -21,122 +21,63 @@ pub(crate) fn shown_name(
 ) -> Result<String, AllocError>
     ensures { IfOk result (λ text. string_bytes text ≡ shown_name (components name.now) realm.now) }
 {
-    let principal = Principal { name, realm };
+    let principal = NameInRealm { name, realm };
     let text = format!(in alloc; "{principal}")?;
-    if text.as_str().len() <= NAME_ROOM {
-        return Ok(text);
-    }
+    let shown = shown_text(alloc, text.as_str().as_bytes());
     drop(text);
+    let shown = shown?;
+    if shown.as_str().len() <= NAME_ROOM {
+        return Ok(shown);
+    }
+    drop(shown);
     LONG_NAME.to_string(alloc)
 }
 
-// A name in its realm, which prints as `host/server@REALM`, in printable ASCII without a blank.
-#[derive(Clone, Copy)]
-struct Principal<'a> {
-    name: &'a PrincipalName,
-    realm: &'a Realm,
+// Returns a text in printable ASCII without a blank.
+fn shown_text(alloc: Global, text: &[u8]) -> Result<String, AllocError>
+    ensures { IfOk result (λ shown. string_bytes shown ≡ shown_text text.now) }
+{
+    let text = ShownText(text);
+    let shown = format!(in alloc; "{text}")?;
+    Ok(shown)
 }
 
-impl<'a> fmt::Display for Principal<'a> {
+// The octets of a text, which print in printable ASCII without a blank.
+#[derive(Clone, Copy)]
+struct ShownText<'a>(&'a [u8]);
+
+impl<'a> fmt::Display for ShownText<'a> {
     ghost use Rattle.std.specs.Prelude.{Some};
-    ghost use Rattle.krb_messages.specs.Names.{components};
-    ghost use Rattle.krb_log.specs.NameText.{principal_text};
+    ghost use Rattle.krb_log.specs.NameText.{shown_text};
 
-    ghost output = { λ principal. Some (principal_text (components principal.name.now) principal.realm.now) };
-
-    fn fmt<W: fmt::Write>(&self, f: &mut fmt::Formatter<W>) -> fmt::Result {
-        let name = Name(self.name.name_string.0.as_slice());
-        let realm = Component(self.realm);
-        write!(f, "{name}@{realm}")
-    }
-}
-
-// The components of a name, with `/` between them.
-#[derive(Clone, Copy)]
-struct Name<'a>(&'a [KerberosStringAsn1]);
-
-impl<'a> fmt::Display for Name<'a> {
-    ghost use Rattle.std.specs.Prelude.{Some};
-    ghost use Rattle.krb_log.specs.NameText.{name_text};
-
-    ghost output = { λ name. Some (name_text name.0.now) };
+    ghost output = { λ text. Some (shown_text text.0.now) };
 
     fn fmt<W: fmt::Write>(&self, f: &mut fmt::Formatter<W>) -> fmt::Result {
-        let [first, further @ ..] = self.0 else {
-            return Ok(());
-        };
-        let first = Component(first);
-        let further = FurtherComponents(further);
-        write!(f, "{first}{further}")
-    }
-}
-
-// The components after the first one.
-#[derive(Clone, Copy)]
-struct FurtherComponents<'a>(&'a [KerberosStringAsn1]);
-
-impl<'a> fmt::Display for FurtherComponents<'a> {
-    ghost use Rattle.std.specs.Prelude.{Some, ◌∷◌};
-    ghost use Rattle.std.specs.List.{flat_map};
-    ghost use Rattle.krb_log.specs.NameText.{component_text};
-
-    ghost output = { λ further. Some (flat_map (λ component. 47 ∷ component_text component) further.0.now) };
-
-    fn fmt<W: fmt::Write>(&self, f: &mut fmt::Formatter<W>) -> fmt::Result {
-        for component in self.0 {
-            let component = Component(component);
-            write!(f, "/{component}")?;
+        for octet in self.0 {
+            let octet = ShownOctet(*octet);
+            write!(f, "{octet}")?;
         }
         Ok(())
     }
 }
 
-// A component of a name, or a realm.
+// An octet of a text.
 #[derive(Clone, Copy)]
-struct Component<'a>(&'a KerberosStringAsn1);
+struct ShownOctet(u8);
 
-impl<'a> fmt::Display for Component<'a> {
+impl fmt::Display for ShownOctet {
     ghost use Rattle.std.specs.Prelude.{Some};
-    ghost use Rattle.krb_log.specs.NameText.{component_text};
+    ghost use Rattle.krb_log.specs.NameText.{shown_octet};
 
-    ghost output = { λ component. Some (component_text component.0.now) };
+    ghost output = { λ octet. Some (shown_octet octet.0) };
 
     fn fmt<W: fmt::Write>(&self, f: &mut fmt::Formatter<W>) -> fmt::Result {
-        for character in self.0.as_bytes() {
-            let character = Character(*character);
-            write!(f, "{character}")?;
-        }
-        Ok(())
-    }
-}
-
-// A character of a component or of a realm.
-#[derive(Clone, Copy)]
-struct Character(u8);
-
-impl fmt::Display for Character {
-    ghost use Rattle.std.specs.Prelude.{Some};
-    ghost use Rattle.krb_log.specs.NameText.{escaped};
-
-    ghost output = { λ character. Some (escaped character.0) };
-
-    fn fmt<W: fmt::Write>(&self, f: &mut fmt::Formatter<W>) -> fmt::Result {
-        let character = char::from(self.0);
-        if is_mark(self.0) {
-            return write!(f, "\\{character}");
-        }
         if self.0.is_ascii_graphic() {
+            let character = char::from(self.0);
             return write!(f, "{character}");
         }
         let high = self.0 / 16;
         let low = self.0 % 16;
         write!(f, "\\x{high:x}{low:x}")
     }
-}
-
-// Whether the character is `/`, `@` or a backslash, which have a meaning in the text of a name.
-fn is_mark(character: u8) -> bool
-    ensures { result ≡ is_mark character }
-{
-    character == b'/' || character == b'@' || character == b'\\'
 }

@@ -1,21 +1,21 @@
 //! Why the client of an AS request wasn't authenticated.
 ghost use Rattle.std.specs.Prelude.{◌≡◌, IfOk};
 ghost use Rattle.std.specs.Option.{option_copied};
-ghost use Rattle.krb_kdc_exchanges.specs.Requests.{body_of, padata_in};
+ghost use Rattle.krb_kdc_exchanges.specs.Requests.{body_of};
+ghost use Rattle.krb_messages.specs.Padata.{padata_in};
 ghost use Rattle.decision_tables.specs.Tables.{as_made};
 ghost use Rattle.pkinit_validation.specs.Diagnoses.{request_fault};
 ghost use Rattle.krb_log.specs.Reasons.{moment_reason, pk_as_req_reason, preauthentication_reason, reason_by_timestamp, reason_by_value, timestamp_reason, unopened_reason};
 ghost use Rattle.krb_constants.specs.declared.padata_types.TheConstants.{PA_ENC_TIMESTAMP};
-ghost use Rattle.krb_tickets.specs.Padata.{first_of};
+ghost use Rattle.krb_messages.specs.Padata.{first_of};
 
 use crate::reason::Reason;
-use krb_accounts::Account;
 use krb_constants::padata_types::{PA_ENC_TIMESTAMP, PA_PK_AS_REQ};
-use krb_kdc_exchanges::padata_in;
+use krb_kdc_exchanges::{moment_of, open_encrypted_timestamp};
 use krb_messages::data_types::{EncryptedData, PaData, PaEncTsEnc};
 use krb_messages::messages::KdcReq;
-use krb_tickets::{first_of, moment_of, open_encrypted_timestamp};
-use picky_asn1::is_number;
+use krb_messages::{first_of, is_number, padata_in};
+use krb_realm_accounts::Account;
 use picky_asn1_der::read_whole;
 use pkinit_validation::{PkAsReqFault, request_fault};
 use std::alloc::{AllocError, Global};

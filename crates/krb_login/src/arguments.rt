@@ -1,15 +1,15 @@
 //! The arguments of a login.
 
 use crate::environment::{default_cache, default_realm};
-use decision_tables::both;
 use krb_account_texts::suite_named;
-use krb_accounts::{LIFETIME_LIMIT, USUAL_LIFETIME, are_components};
 use krb_client::{AskRefusal, Client};
 use krb_client_exchanges::Wanted;
 use krb_commands::{Given, Stop, given_of, is_word, principal_in, usage};
 use krb_crypto::CipherSuite;
 use krb_messages::PrincipalText;
+use krb_realm_accounts::{LIFETIME_LIMIT, USUAL_LIFETIME, are_components};
 use krb_time::Moment;
+use picky_asn1_der::both;
 use std::alloc::Global;
 
 /// The options that have a value.

@@ -1,8 +1,8 @@
 //! A certificate with its private key, and the authority that the client trusts.
 
 use crate::arguments::CertificateFiles;
-use decision_tables::both;
 use krb_commands::{FileKind, Stop, octets_of, refused};
+use picky_asn1_der::both;
 use pkinit_clients::ByCertificate;
 use pkinit_validation::Anchor;
 use public_key_cryptography::Group;

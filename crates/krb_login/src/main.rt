@@ -19,7 +19,8 @@
 //! certificate of the user. It is 2 if the arguments are none, a file or a stream can't be read or written, or memory ran out. One line on
 //! standard error says what was expected, and names an error of the KDC with its code. No line shows a key or a password.
 //!
-//! It is safe, returns, and meets what its calls require. `krb_client_exchanges` says which requests it sends, and what cache is made of the tickets.
+//! It is safe, returns, and meets what its calls require. `krb_client_exchanges` says what its calls ask of a `Kdc`, and what cache is made
+//! of the tickets. No contract says what files and streams hold.
 #![tactic(auto)]
 
 mod arguments;

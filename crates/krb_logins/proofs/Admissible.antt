@@ -17,7 +17,7 @@ use Rattle.krb_tickets.specs.Sealing.{Seals}
 use Rattle.krb_tickets.specs.Grant.{GrantRecord}
 use Rattle.krb_tickets.specs.Parts.{session_key_of, ticket_part}
 use Rattle.krb_tickets.specs.Sealed.{ticket_part_bytes}
-use Rattle.krb_tickets.specs.Times.{asked_end}
+use Rattle.krb_kdc_exchanges.specs.Times.{asked_end}
 use Rattle.krb_kdc_exchanges.specs.declared.span.Span.{Span}
 use Rattle.krb_ap_requests.specs.Acceptable.{IsAcceptable}
 use Rattle.krb_ap_requests.specs.Presents.{Choice}

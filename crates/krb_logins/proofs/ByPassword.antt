@@ -12,18 +12,18 @@ use Rattle.krb_messages.specs.declared.data_types.encrypted_data.EncryptedData.{
 use Rattle.krb_messages.specs.declared.data_types.pa_data.PaData.{PaData}
 use Rattle.krb_messages.specs.declared.data_types.pa_enc_timestamp.PaEncTsEnc.{PaEncTsEnc}
 use Rattle.krb_messages.specs.declared.messages.kdc_req.KdcReq.{KdcReq}
-use Rattle.krb_accounts.specs.Account.{AccountRecord}
+use Rattle.krb_realm_accounts.specs.Account.{AccountRecord}
 use Rattle.decision_tables.specs.Tables.{Table, ask, done, need, refuse}
 use Rattle.krb_tickets.specs.Sealing.{sealed_opens}
 use Rattle.krb_kdc_exchanges.specs.Rows.{PkinitRows}
-use Rattle.krb_tickets.specs.Padata.{first_padata, first_of}
-use Rattle.krb_tickets.specs.EncryptedTimestamps as preauth
-use Rattle.krb_tickets.specs.EncryptedTimestamps.{moment_of, sole_encrypted_timestamp, timestamp_tree}
+use Rattle.krb_messages.specs.Padata.{first_padata, first_of}
+use Rattle.krb_kdc_exchanges.specs.EncryptedTimestamps as preauth
+use Rattle.krb_kdc_exchanges.specs.EncryptedTimestamps.{moment_of, sole_encrypted_timestamp, timestamp_tree}
 use Rattle.krb_tickets.specs.ReplyKeys.{ReplyKeyRecord, as_reply_key}
 use Rattle.krb_kdc_exchanges.specs.AsTable.{authenticated, authenticated_by, timestamped}
 use Rattle.krb_kdc_exchanges.specs.Call.{CallRecord, skew_of}
 use Rattle.krb_kdc_exchanges.specs.Calls.{AreKeyed}
-use Rattle.krb_kdc_exchanges.specs.Requests.{padata_in}
+use Rattle.krb_messages.specs.Padata.{padata_in}
 use Rattle.krb_client.specs.AsRequest.{as_request_of}
 use Rattle.krb_client.specs.Client.{ClientRecord}
 use Rattle.krb_client.specs.Messages.{encrypted_bytes, timestamp_bytes}

@@ -17,7 +17,7 @@ use Rattle.krb_messages.specs.declared.data_types.principal_name.PrincipalName.{
 use Rattle.krb_messages.specs.Messages.{IsAsReq, IsTgsReq, sole_as_req, sole_tgs_req}
 use Rattle.krb_messages.specs.declared.messages.kdc_req.KdcReq.{KdcReq}
 use Rattle.krb_messages.specs.declared.messages.kdc_req_body.KdcReqBody.{KdcReqBody}
-use Rattle.krb_accounts.specs.Account.{AccountRecord}
+use Rattle.krb_realm_accounts.specs.Account.{AccountRecord}
 use Rattle.krb_kdc_exchanges.specs.Rows.{PkinitRows}
 use Rattle.decision_tables.specs.Tables.{Table, and_then, ask, done, need, refuse}
 use Rattle.krb_tickets.specs.Sealing.{is_own_number}

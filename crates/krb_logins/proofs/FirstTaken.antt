@@ -10,7 +10,7 @@ use Rattle.krb_messages.specs.declared.data_types.encrypted_data.EncryptedData.{
 use Rattle.krb_messages.specs.Messages.{IsAsRep, enc_as_rep_part_tree, sole_as_rep}
 use Rattle.krb_messages.specs.declared.messages.enc_kdc_rep_part.EncKdcRepPart.{EncKdcRepPart}
 use Rattle.krb_messages.specs.declared.messages.kdc_rep.KdcRep.{KdcRep}
-use Rattle.krb_accounts.specs.Account.{AccountRecord}
+use Rattle.krb_realm_accounts.specs.Account.{AccountRecord}
 use Rattle.decision_tables.specs.Tables.{Table, and_then, ask, done}
 use Rattle.krb_tickets.specs.Sealing.{Seals, sealed_opens}
 use Rattle.krb_kdc_exchanges.specs.Rows.{PkinitRows}

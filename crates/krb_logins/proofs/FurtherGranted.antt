@@ -29,17 +29,17 @@ use Rattle.krb_messages.specs.declared.messages.ap_req.ApReqInner.{ApReqInner}
 use Rattle.krb_messages.specs.declared.messages.kdc_req.KdcReq.{KdcReq}
 use Rattle.krb_messages.specs.declared.messages.kdc_req_body.KdcReqBody.{KdcReqBody}
 use Rattle.krb_messages.specs.Messages.{IsApReq, IsAsReq, IsTgsReq, enc_ticket_part_tree, sole_ap_req, sole_as_req, sole_tgs_req, tgs_req_tree}
-use Rattle.krb_accounts.specs.Account.{AccountRecord}
-use Rattle.krb_accounts.specs.declared.policy.Policy.{Policy}
+use Rattle.krb_realm_accounts.specs.Account.{AccountRecord}
+use Rattle.krb_realm_accounts.specs.declared.policy.Policy.{Policy}
 use Rattle.decision_tables.specs.Tables.{Table, and_then, ask, done, need, refuse}
 use Rattle.krb_tickets.specs.Keys.{suite_of}
 use Rattle.krb_tickets.specs.Sealing.{encryption_key, is_own_number, sealed_opens}
-use Rattle.krb_tickets.specs.Padata.{first_padata, first_of}
+use Rattle.krb_messages.specs.Padata.{first_padata, first_of}
 use Rattle.krb_tickets.specs.Grant.{GrantRecord}
 use Rattle.krb_tickets.specs.Parts.{session_key_of, ticket_part}
 use Rattle.krb_tickets.specs.ReplyKeys.{ReplyKeyRecord, tgs_reply_key}
 use Rattle.krb_tickets.specs.Sealed.{ticket_part_bytes}
-use Rattle.krb_tickets.specs.Times.{asked_end, end_of, last_second, start_of}
+use Rattle.krb_kdc_exchanges.specs.Times.{asked_end, end_of, last_second, start_of}
 use Rattle.krb_tickets.specs.Granted.{IsTicketReply}
 use Rattle.krb_ap_requests.specs.ApTable.{ap_fields, is_early, is_for, is_late, kvno_fits, opened, opened_part, timely, authenticator_time}
 use Rattle.krb_ap_requests.specs.Entry.{EntryRecord}
@@ -49,7 +49,8 @@ use Rattle.krb_ap_requests.specs.declared.presented.Authenticated.{Authenticated
 use Rattle.krb_kdc_exchanges.specs.Rows.{PkinitRows}
 use Rattle.krb_kdc_exchanges.specs.Call.{CallRecord, skew_of}
 use Rattle.krb_kdc_exchanges.specs.Granting.{replied}
-use Rattle.krb_kdc_exchanges.specs.Requests.{IsSpan, account_of, client_of, padata_in, is_ended, lasting, service_of}
+use Rattle.krb_kdc_exchanges.specs.Requests.{IsSpan, account_of, client_of, is_ended, lasting, service_of}
+use Rattle.krb_messages.specs.Padata.{padata_in}
 use Rattle.krb_messages.specs.Bodies.{body_bytes}
 use Rattle.krb_messages.specs.TicketGranting.{krbtgt_of}
 use Rattle.krb_kdc_exchanges.specs.declared.span.Span.{Span}

@@ -9,7 +9,7 @@ use Rattle.krb_messages.specs.declared.data_types.encrypted_data.EncryptedData.{
 use Rattle.krb_messages.specs.Messages.{IsTgsRep, enc_tgs_rep_part_tree, sole_tgs_rep}
 use Rattle.krb_messages.specs.declared.messages.enc_kdc_rep_part.EncKdcRepPart.{EncKdcRepPart}
 use Rattle.krb_messages.specs.declared.messages.kdc_rep.KdcRep.{KdcRep}
-use Rattle.krb_accounts.specs.Account.{AccountRecord}
+use Rattle.krb_realm_accounts.specs.Account.{AccountRecord}
 use Rattle.krb_kdc_exchanges.specs.Rows.{PkinitRows}
 use Rattle.decision_tables.specs.Tables.{Table, ask, done}
 use Rattle.krb_tickets.specs.Sealing.{sealed_opens}

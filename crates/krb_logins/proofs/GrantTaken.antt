@@ -13,7 +13,7 @@ use Rattle.krb_messages.specs.Names.{components, is_same_name, is_same_realm}
 use Rattle.krb_messages.specs.RandomBytes.{Random, session_seed, ticket_confounder}
 use Rattle.krb_messages.specs.declared.data_types.encrypted_data.EncryptedData.{EncryptedData}
 use Rattle.krb_messages.specs.declared.messages.kdc_rep.KdcRep.{KdcRep}
-use Rattle.krb_accounts.specs.Account.{AccountRecord}
+use Rattle.krb_realm_accounts.specs.Account.{AccountRecord}
 use Rattle.decision_tables.specs.Tables.{Table, done, need}
 use Rattle.krb_tickets.specs.Keys.{suite_of}
 use Rattle.krb_tickets.proofs.KeySizes.{suite_of_sized}

@@ -8,7 +8,7 @@ use Rattle.std.specs.Prelude.{codes, nat_le}
 use Rattle.asn1_leaves.specs.CharSets.{is_general_string}
 use Rattle.picky_asn1.specs.Bytes.{Bytes}
 use Rattle.krb_messages.specs.Names.{is_same_name, is_same_realm}
-use Rattle.krb_accounts.specs.Names.{AreComponents, IsRealmName, is_realm_name}
+use Rattle.krb_realm_accounts.specs.Names.{AreComponents, IsRealmName, is_realm_name}
 use Rattle.krb_messages.specs.TicketGranting.{krbtgt_of}
 
 -- a name is the same as itself

@@ -4,7 +4,7 @@ use Rattle.asn1_leaves.specs.declared.date.GeneralizedTime.{GeneralizedTime}
 use Rattle.picky_asn1.specs.Bytes.{Bytes}
 use Rattle.krb_time.specs.Units.{Micros}
 use Rattle.krb_messages.specs.RandomBytes.{Random}
-use Rattle.krb_accounts.specs.Names.{are_components}
+use Rattle.krb_realm_accounts.specs.Names.{are_components}
 use Rattle.krb_tickets.specs.Sealing.{encryption_key}
 use Rattle.decision_tables.specs.Tables.{Table}
 use Rattle.krb_frames.specs.declared.fault.AnswerRefusal.{AnswerRefusal}

@@ -6,7 +6,7 @@ use Rattle.asn1_leaves.specs.GeneralizedTime.{seconds_of}
 use Rattle.krb_time.specs.Moment.{IsMoment}
 use Rattle.krb_time.specs.Units.{Micros}
 use Rattle.decision_tables.specs.Some.{HasSome}
-use Rattle.krb_tickets.specs.Times.{asked_end, last_second}
+use Rattle.krb_kdc_exchanges.specs.Times.{asked_end, last_second}
 use Rattle.krb_kdc_exchanges.specs.Rows.{PkinitRows}
 use Rattle.krb_kdc_exchanges.specs.Calls.{AreKeyed}
 use Rattle.krb_kdc_exchanges.specs.Replies.{Replies}

@@ -9,7 +9,7 @@ use Rattle.krb_kdc_exchanges.specs.Requests.{IsSpan}
 use Rattle.krb_kdc_exchanges.specs.declared.span.Span.{Span}
 use Rattle.krb_ap_requests.specs.ApTable.{is_early, is_late}
 use Rattle.krb_tickets.specs.Parts.{ticket_part}
-use Rattle.krb_tickets.specs.Times.{asked_end, last_second, old_end, start_of}
+use Rattle.krb_kdc_exchanges.specs.Times.{asked_end, last_second, old_end, start_of}
 use Rattle.krb_tickets.specs.Grant.{GrantRecord}
 use Rattle.krb_logins.specs.Honest.{IsWithin}
 use Rattle.krb_logins.proofs.LastSecond.{second_below}

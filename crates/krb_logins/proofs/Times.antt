@@ -8,7 +8,7 @@ use Rattle.krb_time.specs.Skew.{is_far}
 use Rattle.krb_time.specs.Times.{moment_at}
 use Rattle.krb_time.specs.Units.{Micros, Seconds}
 use Rattle.krb_service.specs.Seen.{IsWholeSeconds}
-use Rattle.krb_tickets.specs.Times.{asked_end, end_of, last_second, no_end, start_of}
+use Rattle.krb_kdc_exchanges.specs.Times.{asked_end, end_of, last_second, no_end, start_of}
 use Rattle.krb_kdc_exchanges.specs.Requests.{IsSpan, is_ended}
 use Rattle.krb_kdc_exchanges.specs.declared.span.Span.{Span}
 use Rattle.krb_logins.specs.Honest.{IsWithin}

@@ -11,7 +11,7 @@ use Rattle.krb_messages.specs.RandomBytes.{Random}
 use Rattle.krb_messages.specs.declared.data_types.authenticator.AuthenticatorInner.{AuthenticatorInner}
 use Rattle.krb_messages.specs.declared.data_types.enc_ticket_part.EncTicketPartInner.{EncTicketPartInner}
 use Rattle.krb_messages.specs.Messages.{enc_ticket_part_tree}
-use Rattle.krb_accounts.specs.Names.{AreComponents, IsRealmName}
+use Rattle.krb_realm_accounts.specs.Names.{AreComponents, IsRealmName}
 use Rattle.krb_ap_requests.specs.Presents.{Choice, SealsTo}
 use Rattle.krb_client.specs.Asked.{AsAskedRecord, TgsAskedRecord}
 use Rattle.krb_client.specs.ApRequest.{AsksAp}

@@ -7,7 +7,7 @@ use Rattle.krb_constants.specs.declared.types.TheConstants.{NT_PRINCIPAL, NT_SRV
 use Rattle.krb_crypto.specs.Suites.{cipher_confounder_size}
 use Rattle.krb_messages.specs.RandomBytes.{Random, ticket_confounder}
 use Rattle.krb_messages.specs.declared.data_types.encrypted_data.EncryptedData.{EncryptedData}
-use Rattle.krb_accounts.specs.Account.{AccountRecord}
+use Rattle.krb_realm_accounts.specs.Account.{AccountRecord}
 use Rattle.krb_tickets.specs.Grant.{GrantRecord}
 use Rattle.krb_tickets.specs.Parts.{flags_of, session_key_of, ticket_of, ticket_part}
 use Rattle.krb_tickets.specs.Sealed.{IsSealedData, ticket_part_bytes}

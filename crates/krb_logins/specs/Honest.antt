@@ -5,10 +5,10 @@ use Rattle.picky_asn1.specs.Bytes.{Bytes}
 use Rattle.asn1_leaves.specs.GeneralizedTime.{seconds_of}
 use Rattle.krb_time.specs.Units.{Micros}
 use Rattle.krb_messages.specs.Names.{components}
-use Rattle.krb_accounts.specs.Account.{AccountRecord}
-use Rattle.krb_accounts.specs.Names.{AreComponents, IsRealmName}
+use Rattle.krb_realm_accounts.specs.Account.{AccountRecord}
+use Rattle.krb_realm_accounts.specs.Names.{AreComponents, IsRealmName}
 use Rattle.krb_service.specs.Pair.{PairRecord, is_among}
-use Rattle.krb_tickets.specs.Times.{asked_end}
+use Rattle.krb_kdc_exchanges.specs.Times.{asked_end}
 use Rattle.krb_messages.specs.TicketGranting.{krbtgt_of}
 use Rattle.krb_client.specs.Client.{ClientRecord}
 use Rattle.krb_service.specs.Service.{IsService, ServiceRecord}

@@ -1,6 +1,6 @@
 -- The input and the parties of a login as definitions see them.
-use Rattle.krb_accounts.specs.Accounts.{look_in}
-use Rattle.krb_accounts.specs.Names.{parts}
+use Rattle.krb_realm_accounts.specs.Accounts.{look_in}
+use Rattle.krb_realm_accounts.specs.Names.{parts}
 use Rattle.krb_service.specs.Service.{ServiceRecord}
 use Rattle.krb_kdc_exchanges.specs.declared.call.Call as called
 use Rattle.krb_logins.specs.Parties.{LoginRecord, RealmRecord, RememberedRecord}

@@ -4,8 +4,8 @@ use Rattle.asn1_leaves.specs.declared.date.GeneralizedTime.{GeneralizedTime}
 use Rattle.picky_asn1.specs.Bytes.{Bytes}
 use Rattle.krb_time.specs.Units.{Micros}
 use Rattle.krb_messages.specs.RandomBytes.{Random}
-use Rattle.krb_accounts.specs.Accounts.{Look}
-use Rattle.krb_accounts.specs.Settings.{SettingsRecord}
+use Rattle.krb_realm_accounts.specs.Accounts.{Look}
+use Rattle.krb_realm_accounts.specs.Settings.{SettingsRecord}
 use Rattle.krb_service.specs.Pair.{PairRecord}
 use Rattle.krb_kdc_exchanges.specs.Call.{CallRecord}
 

@@ -6,7 +6,7 @@ use Rattle.krb_time.specs.Units.{Micros}
 use Rattle.krb_messages.specs.RandomBytes.{Random}
 use Rattle.krb_messages.specs.declared.data_types.pa_data.PaData.{PaData}
 use Rattle.krb_messages.specs.declared.messages.kdc_req_body.KdcReqBody.{KdcReqBody}
-use Rattle.krb_accounts.specs.Names.{are_components}
+use Rattle.krb_realm_accounts.specs.Names.{are_components}
 use Rattle.krb_frames.specs.declared.fault.AnswerRefusal.{AnswerRefusal}
 use Rattle.krb_frames.specs.declared.fault.AnswerRefusal.TheVariants as answer_refusal
 use Rattle.krb_kdc_exchanges.specs.Rows.{PkinitRows}

@@ -1,6 +1,6 @@
 //! The name of a realm's ticket-granting service.
 ghost use Rattle.std.specs.Prelude.{◌≡◌, IfOk};
-ghost use Rattle.krb_accounts.specs.Names.{parts};
+ghost use Rattle.krb_realm_accounts.specs.Names.{parts};
 ghost use Rattle.krb_messages.specs.TicketGranting.{krbtgt_of};
 
 use krb_messages::krbtgt;

@@ -2,22 +2,21 @@
 ghost use Rattle.std.specs.Prelude.{◌≡◌, ◌<◌, ◌*◌, false, IsTrue, Some};
 ghost use Rattle.krb_time.specs.Skew.{IsWithinDay};
 ghost use Rattle.asn1_leaves.specs.GeneralizedTime.{seconds_of};
-ghost use Rattle.krb_accounts.specs.Account.{AccountRecord};
-ghost use Rattle.krb_accounts.specs.Accounts.{look_in};
-ghost use Rattle.krb_accounts.specs.Names.{parts};
+ghost use Rattle.krb_realm_accounts.specs.Account.{AccountRecord};
+ghost use Rattle.krb_realm_accounts.specs.Accounts.{look_in};
+ghost use Rattle.krb_realm_accounts.specs.Names.{parts};
 ghost use Rattle.krb_service.specs.Pair.{is_among};
-ghost use Rattle.krb_tickets.specs.Times.{asked_end};
+ghost use Rattle.krb_kdc_exchanges.specs.Times.{asked_end};
 ghost use Rattle.krb_logins.specs.Honest.{AreNear, IsHonestByPassword, IsHonestLogin, IsWithin};
 ghost use Rattle.krb_logins.specs.Input.{held_by, login_of, realm_of};
 
 use crate::input::{LoginInput, LoginMoments};
-use krb_accounts::{Account, Accounts, Settings, components_of};
 use krb_client::Client;
 use krb_crypto::Key;
-use krb_kdc_exchanges::Call;
+use krb_kdc_exchanges::{Call, end_of, start_of};
 use krb_messages::{is_same_name, is_same_realm};
+use krb_realm_accounts::{Account, Accounts, Settings, components_of};
 use krb_service::{KeytabEntry, Pair, Service};
-use krb_tickets::{end_of, start_of};
 use krb_time::{MICROSECONDS_IN_SECOND, Moment};
 use picky_asn1::date::GeneralizedTime;
 use picky_asn1::wrapper::GeneralStringAsn1;

@@ -11,7 +11,7 @@ ghost use Rattle.krb_tickets.specs.Sealing.{encryption_key};
 ghost use Rattle.krb_logins.specs.ApExchanges.{Admit, ApAsk, Keyed, Remembers, Show, remembered};
 
 use crate::{LoginInput, LoginRefusal};
-use krb_client::{ApAsked, Client, Credential, TakeRefusal};
+use krb_client::{ApAsked, Client, Credential, ServiceRequest, TakeRefusal};
 use krb_messages::data_types::EncryptionKey;
 use krb_service::{Admission, Service};
 use krb_tickets::encryption_key;
@@ -50,9 +50,14 @@ fn ask_ap(
     requires { AreEnoughForRequest input.now.words_ap.now }
     ensures { ApAsk client.now (login_of input.now) credential.now result }
 {
-    let moment = input.moments.client_ap;
+    let request = ServiceRequest {
+        mutual_required: true,
+        with_subkey: false,
+        moment: input.moments.client_ap,
+        words: input.words_ap,
+    };
     client
-        .ap_request(alloc, credential, true, false, moment, input.words_ap)
+        .ap_request(alloc, credential, &request)
         .map_err(LoginRefusal::Asked)
 }
 

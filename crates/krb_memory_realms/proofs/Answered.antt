@@ -3,8 +3,8 @@ use Rattle.std.proofs.Common.{◌≡◌, ℕ, Option, Result, Err, ap, sym, subs
 use Rattle.std.specs.Prelude.{Vec}
 use Rattle.std.specs.Global.{Global}
 use Rattle.x509_keys.specs.KeyFunctions.{KeysRecord}
-use Rattle.krb_accounts.specs.Accounts.{look_in}
-use Rattle.krb_accounts.specs.Settings.{SettingsRecord}
+use Rattle.krb_realm_accounts.specs.Accounts.{look_in}
+use Rattle.krb_realm_accounts.specs.Settings.{SettingsRecord}
 use Rattle.krb_frames.specs.declared.fault.AnswerRefusal.{AnswerRefusal}
 use Rattle.krb_frames.specs.declared.fault.AnswerRefusal.TheVariants.{Memory}
 use Rattle.krb_kdc.specs.Answers.{IsAnswerBy, MayRefuse, refusal_of}

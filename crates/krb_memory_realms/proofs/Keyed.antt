@@ -7,9 +7,9 @@ use Rattle.picky_asn1.specs.Bytes.{Bytes}
 use Rattle.block_ciphers.specs.Bytes.{IsBytes}
 use Rattle.krb_crypto.specs.declared.suite.CipherSuite.{CipherSuite}
 use Rattle.krb_crypto.specs.Suites.{cipher_key_size}
-use Rattle.krb_accounts.specs.Account.{AccountRecord}
-use Rattle.krb_accounts.specs.Accounts.{AccountMap, changing, look_in, name_cmp, name_total, rekeyed}
-use Rattle.krb_accounts.specs.declared.refusal.RealmRefusal.TheVariants.{BadKeyLength, NumberSpent}
+use Rattle.krb_realm_accounts.specs.Account.{AccountRecord}
+use Rattle.krb_realm_accounts.specs.Accounts.{AccountMap, changing, look_in, name_cmp, name_total, rekeyed}
+use Rattle.krb_realm_accounts.specs.declared.refusal.RealmRefusal.TheVariants.{BadKeyLength, NumberSpent}
 use Rattle.krb_kdc_exchanges.specs.Calls.{AreKeyed, IsKeyed}
 use Rattle.krb_messages.specs.TicketGranting.{krbtgt_of}
 use Rattle.krb_memory_realms.specs.Realm.{IsRealm, is_krbtgt}

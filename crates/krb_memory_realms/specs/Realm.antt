@@ -7,18 +7,18 @@ use Rattle.krb_time.specs.Units.{Micros}
 use Rattle.picky_asn1.specs.Bytes.{Bytes}
 use Rattle.krb_crypto.specs.declared.suite.CipherSuite.{CipherSuite}
 use Rattle.krb_crypto.specs.Suites.{cipher_key_size}
-use Rattle.krb_accounts.specs.Account.{AccountRecord}
-use Rattle.krb_accounts.specs.Accounts.{AccountMap, look_in}
-use Rattle.krb_accounts.specs.Accounts as map
-use Rattle.krb_accounts.specs.Names.{is_realm_name, are_components}
-use Rattle.krb_accounts.specs.Settings.{SettingsRecord}
+use Rattle.krb_realm_accounts.specs.Account.{AccountRecord}
+use Rattle.krb_realm_accounts.specs.Accounts.{AccountMap, look_in}
+use Rattle.krb_realm_accounts.specs.Accounts as map
+use Rattle.krb_realm_accounts.specs.Names.{is_realm_name, are_components}
+use Rattle.krb_realm_accounts.specs.Settings.{SettingsRecord}
 use Rattle.krb_kdc_exchanges.specs.Call.{CallRecord}
 use Rattle.krb_kdc_exchanges.specs.Calls.{AreKeyed}
 use Rattle.krb_messages.specs.TicketGranting.{krbtgt_of}
 use Rattle.pkinit_validation.specs.Trust.{TrustRecord}
 use Rattle.krb_memory_realms.specs.Settings.{SettingsState}
-use Rattle.krb_accounts.specs.declared.refusal.RealmRefusal.{RealmRefusal}
-use Rattle.krb_accounts.specs.declared.refusal.RealmRefusal.TheVariants.{BadName, BadKeyLength, Exists, KeptAccount, Unknown}
+use Rattle.krb_realm_accounts.specs.declared.refusal.RealmRefusal.{RealmRefusal}
+use Rattle.krb_realm_accounts.specs.declared.refusal.RealmRefusal.TheVariants.{BadName, BadKeyLength, Exists, KeptAccount, Unknown}
 
 -- A realm: its name, the limits of its settings, its anchor and its own certificate, and its accounts.
 pub record RealmState : Type 0 where

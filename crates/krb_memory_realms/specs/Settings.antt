@@ -3,9 +3,9 @@
 use Rattle.std.specs.Prelude.{ℕ, Bool, true, false, Option, None, Some}
 use Rattle.picky_asn1.specs.Bytes.{Bytes}
 use Rattle.krb_time.specs.Units.{Seconds}
-use Rattle.krb_accounts.specs.Settings.{SettingsRecord}
-use Rattle.krb_accounts.specs.declared.policy.Policy.{Policy}
-use Rattle.krb_accounts.specs.declared.policy.TheConstants.{NO_POLICY}
+use Rattle.krb_realm_accounts.specs.Settings.{SettingsRecord}
+use Rattle.krb_realm_accounts.specs.declared.policy.Policy.{Policy}
+use Rattle.krb_realm_accounts.specs.declared.policy.TheConstants.{NO_POLICY}
 use Rattle.x509_certificates.specs.declared.certificate.Certificate.{Certificate}
 use Rattle.x509_certificates.specs.contracts.certificate.CertificateSpelled.TheImpl as certificate_impl
 use Rattle.pkinit_validation.specs.Anchors.{AnchorRecord}

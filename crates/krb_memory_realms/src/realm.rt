@@ -3,8 +3,8 @@ ghost use Rattle.std.specs.Prelude.{◌≡◌, ◌<◌, ◌^◌, true, ℕ, List
 ghost use Rattle.std.specs.FinMap as finite;
 ghost use Rattle.krb_messages.specs.RandomBytes.{AreEnoughForReply};
 ghost use Rattle.block_ciphers.specs.Bytes.{IsBytes};
-ghost use Rattle.krb_accounts.specs.Names.{parts};
-ghost use Rattle.krb_accounts.specs.Refusal.{IsMemoryAside};
+ghost use Rattle.krb_realm_accounts.specs.Names.{parts};
+ghost use Rattle.krb_realm_accounts.specs.Refusal.{IsMemoryAside};
 ghost use Rattle.decision_tables.specs.Some.{HasSome};
 ghost use Rattle.krb_kdc_exchanges.specs.Call.{call_of};
 ghost use Rattle.krb_kdc_exchanges.specs.Calls.{AreKeyed, IsKeyed};
@@ -15,14 +15,14 @@ ghost use Rattle.krb_memory_realms.specs.Realm.{call_to, is_krbtgt};
 
 use crate::laws::has_reply;
 use crate::settings::Settings;
-use krb_accounts::{
-    Account, Accounts, RealmRefusal, are_components, is_realm_name, password_salt, realm_name_of,
-};
 use krb_crypto::CipherSuite;
 use krb_frames::AnswerRefusal;
 use krb_kdc::{LookupCall, answer_by, refusal_of};
 use krb_kdc_exchanges::Call;
 use krb_messages::{krbtgt, krbtgt_of};
+use krb_realm_accounts::{
+    Account, Accounts, RealmRefusal, are_components, is_realm_name, password_salt, realm_name_of,
+};
 use krb_time::Moment;
 use picky_asn1::wrapper::GeneralStringAsn1;
 use pkinit_validation::RealmPkinit;
@@ -49,8 +49,8 @@ pub struct Realm {
 impl Model for Realm {
     ghost use Rattle.std.specs.Prelude.{ℕ, List, refl};
     ghost use Rattle.std.specs.Coded.{code_by, coded×, coded_list, coded_ℕ};
-    ghost use Rattle.krb_accounts.specs.Accounts.{AccountMap};
-    ghost use Rattle.krb_accounts.specs.contracts.accounts.Accounts as account_map;
+    ghost use Rattle.krb_realm_accounts.specs.Accounts.{AccountMap};
+    ghost use Rattle.krb_realm_accounts.specs.contracts.accounts.Accounts as account_map;
     ghost use Rattle.krb_memory_realms.specs.contracts.settings.Settings as realm_settings;
     ghost use Rattle.krb_memory_realms.specs.Realm.{IsRealm, RealmState};
     ghost use Rattle.krb_memory_realms.specs.Settings.{SettingsState};
@@ -68,11 +68,11 @@ impl Model for Realm {
 }
 
 impl Realm {
-    ghost use Rattle.krb_accounts.specs.Account.{AccountRecord};
+    ghost use Rattle.krb_realm_accounts.specs.Account.{AccountRecord};
     ghost use Rattle.krb_memory_realms.specs.Realm.{making, made, adding, adding_by_password, changing, first_key, has_krbtgt, removing};
-    ghost use Rattle.krb_accounts.specs.Passwords.{password_account, password_salt};
-    ghost use Rattle.krb_accounts.specs.declared.refusal.RealmRefusal.{RealmRefusal};
-    ghost use Rattle.krb_accounts.specs.Accounts.{look_in};
+    ghost use Rattle.krb_realm_accounts.specs.Passwords.{password_account, password_salt};
+    ghost use Rattle.krb_realm_accounts.specs.declared.refusal.RealmRefusal.{RealmRefusal};
+    ghost use Rattle.krb_realm_accounts.specs.Accounts.{look_in};
     ghost use Rattle.krb_kdc.specs.Begins.{BeginsRequest};
     ghost use Rattle.krb_memory_realms.specs.Answers.{IsAnswer};
 

@@ -1,12 +1,12 @@
 //! A realm's settings.
 ghost use Rattle.std.specs.Prelude.{◌≡◌, ◌⊎◌, Err, IfOk, IsSome, MatchResult};
 ghost use Rattle.std.specs.Option.{option_copied, option_map};
-ghost use Rattle.krb_accounts.specs.Settings.{AreSettings};
+ghost use Rattle.krb_realm_accounts.specs.Settings.{AreSettings};
 ghost use Rattle.pkinit_validation.specs.Trust.{trust_of};
-ghost use Rattle.krb_accounts.specs.declared.policy.TheConstants.{NO_POLICY};
+ghost use Rattle.krb_realm_accounts.specs.declared.policy.TheConstants.{NO_POLICY};
 ghost use Rattle.krb_memory_realms.specs.Settings.{IsCertificateIf, IsOwnCertificate, settings_by, with_policy};
 
-use krb_accounts::{Policy, RealmRefusal, Settings as Limits};
+use krb_realm_accounts::{Policy, RealmRefusal, Settings as Limits};
 use pkinit_validation::{Anchor, RealmPkinit};
 use std::alloc::{AllocError, Global};
 use std::marker::Model;

@@ -9,3 +9,4 @@ pub mod MessageTrees
 pub mod Messages
 pub mod KrbResults
 pub mod Bodies
+pub mod Padata

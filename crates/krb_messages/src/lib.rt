@@ -5,7 +5,7 @@
 //!
 //! Each type is read if and only if the bytes are its one encoding, and is written as that encoding (`ReadsWhole`).
 //! `ResultExt::deserialize` reads a KRB-ERROR where the first octet is 0x7E, and else the message. `body_bytes` is the one encoding of a
-//! request's body. `is_same_realm` and `is_same_name` compare by characters. `components_of_text` and `principal_of_text` read a name in
+//! request's body. `is_same_realm` and `is_same_name` compare by characters. `first_of` gives the first padata of a type. `components_of_text` and `principal_of_text` read a name in
 //! text, or give the fault of the text (RFC 1964, section 2.1.1). A name of ASCII characters that was printed is read again (law
 //! `printed_name_is_read`).
 #![tactic(auto)]
@@ -22,6 +22,8 @@ mod krb_result;
 pub mod messages;
 mod name_reading;
 mod names;
+mod numbers;
+mod padata;
 pub mod random_bytes;
 mod refusal;
 mod ticket_granting;
@@ -35,6 +37,8 @@ pub use name_reading::{
     NameTextFault, PrincipalText, components_of_text, principal_of_text, printed_name_is_read,
 };
 pub use names::{is_same_name, is_same_realm};
+pub use numbers::is_number;
+pub use padata::{first_in, first_of, padata_in};
 use picky_asn1_der::{Asn1DerError, FromDer, from_exact_bytes};
 pub use refusal::Refusal;
 use std::alloc::Global;

@@ -2,8 +2,8 @@
 ghost use Rattle.std.specs.Prelude.{◌≡◌, IfOk, codes};
 ghost use Rattle.krb_messages.specs.TicketGranting.{krbtgt_of};
 
-use decision_tables::both;
 use picky_asn1::wrapper::GeneralStringAsn1;
+use picky_asn1_der::both;
 use std::alloc::{AllocError, Global};
 
 /// The components of the ticket-granting service of a realm (RFC 4120, section 7.3).

@@ -1,19 +1,20 @@
--- Asking for a first ticket: the ticket-granting service's name is one.
-use Rattle.std.proofs.Common.{◌≡◌, true, ◌&&◌, List, Ok, Err, inl, inr, refl, ap, subst, sym, ◌∙◌}
+-- Asking for a first ticket, where the ticket-granting service's name is one, and for a service ticket.
+use Rattle.std.proofs.Common.{◌≡◌, Bool, true, false, ◌&&◌, ◌↔◌, ◌⊎◌, List, Result, Ok, Err, inl, inr, refl, ap, subst, sym, ◌∙◌}
 use Rattle.picky_asn1.specs.Bytes.{Bytes}
-use Rattle.krb_accounts.specs.Names.{IsRealmName, are_components}
+use Rattle.krb_realm_accounts.specs.Names.{IsRealmName, are_components}
 use Rattle.krb_messages.specs.TicketGranting.{krbtgt_of}
-use Rattle.krb_client.specs.Asked.{AsAskedRecord}
+use Rattle.krb_client.specs.Asked.{AsAskedRecord, TgsAskedRecord}
 use Rattle.krb_client.specs.AsRequest.{AsksAs, IsUnasked, as_asked}
-use Rattle.krb_client.specs.Client.{ClientRecord}
+use Rattle.krb_client.specs.Client.{ClientRecord, CredentialRecord}
 use Rattle.krb_client.specs.Means.{MeansRecord}
 use Rattle.krb_client.specs.declared.refusal.AskRefusal.{AskRefusal}
-use Rattle.krb_client.specs.declared.refusal.AskRefusal.TheVariants.{Memory}
+use Rattle.krb_client.specs.TgsRequest.{AsksTgs, tgs_asked}
+use Rattle.krb_client.specs.declared.refusal.AskRefusal.TheVariants.{BadName, Memory}
 use Rattle.krb_logins.specs.Parties.{LoginRecord}
-use Rattle.krb_logins.specs.Steps.{IsAsAsked}
+use Rattle.krb_logins.specs.Steps.{IsAsAsked, IsTgsAsked}
 use Rattle.krb_logins.specs.declared.refusal.LoginRefusal.TheVariants.{Asked}
 use Rattle.krb_logins.specs.ApExchanges.{Made}
-use Rattle.krb_realm.specs.Logins.{AsAsk}
+use Rattle.krb_realm.specs.Logins.{AsAsk, TgsAsk}
 
 module _ (client : ClientRecord) (named : IsRealmName client.realm) (means : MeansRecord) (login : LoginRecord) where
   is_name : are_components (krbtgt_of client.realm) ≡ true
@@ -43,3 +44,19 @@ module _ (client : ClientRecord) (named : IsRealmName client.realm) (means : Mea
       ),
       refl,
     )
+
+module _ (client : ClientRecord) (login : LoginRecord) (granting : CredentialRecord) (result : Result (Made × TgsAskedRecord) AskRefusal)
+    (bad : (result ≡ Err BadName) ↔ (are_components login.service ≡ false)) where
+  pub further_asked : (sent : Made × TgsAskedRecord) → result ≡ Ok sent → AsksTgs client granting login.service login.till login.client_tgs login.words_tgs sent.0.items
+      → sent.1 ≡ tgs_asked granting login.service login.words_tgs → TgsAsk client login granting (Ok sent)
+  unfolding TgsAsk IsTgsAsked
+  further_asked sent is asks remembered = (asks, remembered, by (are_components login.service) refl)
+    where
+      by : (named : Bool) → are_components login.service ≡ named → are_components login.service ≡ true
+      by true e = e
+      by false e = let never = sym is ∙ bad.1 e in absurd (cc (never))
+
+  pub further_unasked : (refusal : AskRefusal) → result ≡ Err refusal → (refusal ≡ Memory) ⊎ (refusal ≡ BadName) → TgsAsk client login granting (Err (Asked refusal))
+  unfolding TgsAsk IsTgsAsked
+  further_unasked refusal is (inl memory) = (refusal, inl memory, refl)
+  further_unasked refusal is (inr name) = (refusal, inr (name, bad.0 (is ∙ ap Err name)), refl)

@@ -8,11 +8,11 @@ use Rattle.krb_messages.specs.declared.messages.kdc_rep.KdcRep.{KdcRep}
 use Rattle.krb_messages.specs.declared.messages.kdc_req_body.KdcReqBody.{KdcReqBody}
 use Rattle.krb_crypto.specs.Keys.{KeyRecord}
 use Rattle.krb_crypto.specs.AgreedKeys.{agreed_key}
-use Rattle.krb_accounts.specs.Account.{AccountRecord}
+use Rattle.krb_realm_accounts.specs.Account.{AccountRecord}
 use Rattle.decision_tables.specs.One.{same_parts}
 use Rattle.decision_tables.specs.Tables.{done}
 use Rattle.krb_kdc_exchanges.specs.PkinitCalls.{AgreedRecord, PkinitCallRecord}
-use Rattle.krb_tickets.specs.Padata.{first_padata, first_of}
+use Rattle.krb_messages.specs.Padata.{first_padata, first_of}
 use Rattle.krb_tickets.specs.MethodData.{pa_data_of}
 use Rattle.krb_tickets.specs.Parts.{padata_of}
 use Rattle.krb_tickets.specs.ReplyKeys.{ReplyKeyRecord, agreed_reply_key}

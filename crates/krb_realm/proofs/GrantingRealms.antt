@@ -1,7 +1,7 @@
 -- A realm, as logins see it, grants.
 use Rattle.std.proofs.Common.{◌≡◌, true, Option, None, Some, is_some, refl}
 use Rattle.std.specs.FinMap.{get}
-use Rattle.krb_accounts.specs.Account.{AccountRecord}
+use Rattle.krb_realm_accounts.specs.Account.{AccountRecord}
 use Rattle.krb_messages.specs.TicketGranting.{krbtgt_of}
 use Rattle.krb_logins.specs.Honest.{IsGranting}
 use Rattle.krb_realm.specs.Logins.{realm_record}

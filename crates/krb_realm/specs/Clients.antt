@@ -4,8 +4,8 @@ use Rattle.picky_asn1.specs.Bytes.{Bytes}
 use Rattle.krb_crypto.specs.Keys.{KeyRecord}
 use Rattle.krb_crypto.specs.Sealing.{password_key_of}
 use Rattle.krb_crypto.specs.declared.suite.CipherSuite.{CipherSuite}
-use Rattle.krb_accounts.specs.Names.{are_components, is_realm_name}
-use Rattle.krb_accounts.specs.Passwords.{password_salt}
+use Rattle.krb_realm_accounts.specs.Names.{are_components, is_realm_name}
+use Rattle.krb_realm_accounts.specs.Passwords.{password_salt}
 use Rattle.krb_client.specs.Client.{ClientRecord, client_of}
 use Rattle.krb_client.specs.Means.{MeansRecord}
 use Rattle.krb_client.specs.EncryptedTimestamps.{by_key}

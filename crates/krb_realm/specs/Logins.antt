@@ -1,7 +1,7 @@
 -- The steps of a login by a client, a realm and a service as they are held: what each call makes, or why the login ends there.
 use Rattle.std.specs.Prelude.{Result}
 use Rattle.picky_asn1.specs.Bytes.{Bytes}
-use Rattle.krb_accounts.specs.Accounts.{look_in}
+use Rattle.krb_realm_accounts.specs.Accounts.{look_in}
 use Rattle.krb_kdc_exchanges.specs.Call.{CallRecord}
 use Rattle.krb_messages.specs.TicketGranting.{krbtgt_of}
 use Rattle.krb_kdc_exchanges.specs.Rows.{PkinitRows}

@@ -12,7 +12,7 @@ ghost use Rattle.krb_realm.specs.HonestByCertificate.{IsHonestByCertificate};
 ghost use Rattle.pkinit_validation.specs.Trust.{trust_of};
 
 use crate::exchange::Exchange;
-use krb_client::Client;
+use krb_client::{Client, TicketRequest};
 use krb_kdc_exchanges::Call;
 use krb_logins::{LoginInput, granting_service, is_honest};
 use krb_service::Service;
@@ -60,9 +60,13 @@ fn has_honest_exchange<C: KeyFunctions, R: KeyFunctions>(
     let Ok(granting) = granting_service(alloc, client.realm()) else {
         return false;
     };
-    let moment = input.moments.client_as;
-    let words = input.words_as;
-    let Ok((_, asked)) = client.as_request(alloc, own, &granting, input.till, moment, words) else {
+    let request = TicketRequest {
+        service: &granting,
+        till: input.till,
+        moment: input.moments.client_as,
+        words: input.words_as,
+    };
+    let Ok((_, asked)) = client.as_request(alloc, own, &request) else {
         return false;
     };
     let called = Call {
@@ -77,8 +81,5 @@ fn has_honest_exchange<C: KeyFunctions, R: KeyFunctions>(
         pkinit,
         nonce: asked.nonce(),
     };
-    match client.as_request(alloc, &exchange, &granting, input.till, moment, words) {
-        Ok(_) => true,
-        Err(_) => false,
-    }
+    matches!(client.as_request(alloc, &exchange, &request), Ok(_))
 }

@@ -1,7 +1,7 @@
 //! Clients.
 ghost use Rattle.std.specs.Prelude.{◌≡◌, ◌↔◌, ◌⊎◌, ℕ, List, true, false, Ok, Err, IfErr, IfOk, MatchResult};
 ghost use Rattle.krb_messages.specs.RandomBytes.{AreEnoughForRequest};
-ghost use Rattle.krb_accounts.specs.Names.{AreComponents, IsRealmName, are_components, parts};
+ghost use Rattle.krb_realm_accounts.specs.Names.{AreComponents, IsRealmName, are_components, parts};
 ghost use Rattle.krb_client.specs.Client.{client_of};
 ghost use Rattle.krb_client.specs.Refusals.{IsMemoryAside, IsTaken};
 ghost use Rattle.krb_memory_realms.specs.Settings.{IsCertificateIf};
@@ -9,7 +9,9 @@ ghost use Rattle.krb_realm.specs.Clients.{IsNoClient};
 ghost use Rattle.krb_realm.specs.HeldClients.{client_by};
 
 use crate::client_means::{ClientMeans, Held};
-use krb_client::{ApAsked, AsAsked, AskRefusal, Credential, TakeRefusal, TgsAsked};
+use krb_client::{
+    ApAsked, AsAsked, AskRefusal, Credential, ServiceRequest, TakeRefusal, TgsAsked, TicketRequest,
+};
 use krb_crypto::CipherSuite;
 use krb_memory_realms::is_certificate;
 use krb_time::Moment;
@@ -142,8 +144,13 @@ impl Client {
         ensures refusal { IfErr result (IsUnasked self.now.client (means_of self.now (K.functions keys.now)) (parts service.now) till moment words.now) }
     {
         let means = self.means(keys);
-        self.asking()
-            .as_request(alloc, &means, service, till, moment, words)
+        let request = TicketRequest {
+            service,
+            till,
+            moment,
+            words,
+        };
+        self.asking().as_request(alloc, &means, &request)
     }
 
     /// What the reply to a request grants (RFC 4120, section 3.1.5; RFC 4556, section 3.2.4). The reply is taken if it is encrypted
@@ -187,8 +194,13 @@ impl Client {
         ensures bad_name { (result ≡ Err AskRefusal.BadName) ↔ (are_components (parts service.now) ≡ false) }
         ensures refusal { IfErr result (λ e. (e ≡ AskRefusal.Memory) ⊎ (e ≡ AskRefusal.BadName)) }
     {
-        self.asking()
-            .tgs_request(alloc, credential, service, till, moment, words)
+        let request = TicketRequest {
+            service,
+            till,
+            moment,
+            words,
+        };
+        self.asking().tgs_request(alloc, credential, &request)
     }
 
     /// What the reply to a request for a service ticket grants (RFC 4120, section 3.3.4). The reply is taken if it is encrypted
@@ -229,14 +241,13 @@ impl Client {
         ensures asked { IfOk result (λ r. r.1 ≡ ap_asked credential.now with_subkey moment words.now) }
         ensures refusal { IfErr result (λ e. e ≡ AskRefusal.Memory) }
     {
-        self.asking().ap_request(
-            alloc,
-            credential,
+        let request = ServiceRequest {
             mutual_required,
             with_subkey,
             moment,
             words,
-        )
+        };
+        self.asking().ap_request(alloc, credential, &request)
     }
 
     /// Takes a service's reply (RFC 4120, section 3.2.5). It shows that the service could open the ticket: it is encrypted

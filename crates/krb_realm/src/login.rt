@@ -18,7 +18,7 @@ ghost use Rattle.pkinit_validation.specs.Anchors.{AnchorRecord};
 
 use crate::certified_laws::one_key_by_certificate;
 use crate::client::Client;
-use krb_client::{AsAsked, AskRefusal, Credential, Means, TgsAsked};
+use krb_client::{AsAsked, AskRefusal, Credential, Means, TgsAsked, TicketRequest};
 use krb_logins::laws::one_key_by_password;
 use krb_logins::{LoginInput, LoginRefusal, ap_exchange, granting_service};
 use krb_memory_realms::Realm;
@@ -252,9 +252,14 @@ fn ask_as<M: Means>(
     let Ok(service) = granting_service(alloc, client.realm()) else {
         return Err(LoginRefusal::Asked(AskRefusal::Memory));
     };
-    let moment = input.moments.client_as;
+    let request = TicketRequest {
+        service: &service,
+        till: input.till,
+        moment: input.moments.client_as,
+        words: input.words_as,
+    };
     client
-        .as_request(alloc, means, &service, input.till, moment, input.words_as)
+        .as_request(alloc, means, &request)
         .map_err(LoginRefusal::Asked)
 }
 
@@ -269,10 +274,14 @@ fn ask_tgs(
     requires { AreEnoughForRequest input.now.words_tgs.now }
     ensures { TgsAsk client.now (login_of input.now) granting.now result }
 {
-    let moment = input.moments.client_tgs;
-    let words = input.words_tgs;
+    let request = TicketRequest {
+        service: input.service,
+        till: input.till,
+        moment: input.moments.client_tgs,
+        words: input.words_tgs,
+    };
     client
-        .tgs_request(alloc, granting, input.service, input.till, moment, words)
+        .tgs_request(alloc, granting, &request)
         .map_err(LoginRefusal::Asked)
 }
 

@@ -5,7 +5,7 @@ use Rattle.byteorder.specs.Numbers.{little_number-reads_back}
 use Rattle.byte_streams.specs.Numbers.{le32, le32_at}
 use Rattle.krb_crypto.specs.declared.suite.CipherSuite.{CipherSuite}
 use Rattle.krb_crypto.specs.Suites.{cipher_key_size, cipher_number}
-use Rattle.krb_accounts.specs.Account.{AccountRecord}
+use Rattle.krb_realm_accounts.specs.Account.{AccountRecord}
 use Rattle.krb_realm_files.specs.AccountRecords.{account_behind, account_bytes, account_in, salt_flag, salt_in, salt_octets}
 use Rattle.krb_realm_files.proofs.Numbered.{of_number}
 

@@ -4,8 +4,8 @@ use Rattle.std.proofs.lemmas.Bool.{and_parts}
 use Rattle.std.proofs.lemmas.Bool.Decides.{nat_tests}
 use Rattle.std.specs.List.{list_all}
 use Rattle.picky_asn1.specs.Bytes.{Bytes}
-use Rattle.krb_accounts.specs.Names.{are_components, is_realm_name}
-use Rattle.krb_accounts.specs.Packed.{fit, fit_behind}
+use Rattle.krb_realm_accounts.specs.Names.{are_components, is_realm_name}
+use Rattle.krb_realm_accounts.specs.Packed.{fit, fit_behind}
 
 and_both : (a b : Bool) → a ≡ true → b ≡ true → (a && b) ≡ true
 and_both true b p q = q

@@ -13,8 +13,8 @@ use Rattle.cdb.specs.declared.fault.Fault.TheVariants.{Damaged, Long}
 use Rattle.cdb.specs.declared.tables.Found.{Found}
 use Rattle.krb_crypto.specs.Suites.{cipher_key_size}
 use Rattle.krb_crypto.specs.declared.suite.CipherSuite.{CipherSuite}
-use Rattle.krb_accounts.specs.Account.{AccountRecord}
-use Rattle.krb_accounts.specs.Packed.{fit, packed}
+use Rattle.krb_realm_accounts.specs.Account.{AccountRecord}
+use Rattle.krb_realm_accounts.specs.Packed.{fit, packed}
 use Rattle.krb_kdc_exchanges.specs.Calls.{AreKeyed, IsKeyed}
 use Rattle.krb_realm_files.specs.declared.format.TheConstants.{RECORD_ROOM}
 use Rattle.krb_realm_files.specs.AccountRecords.{account_behind, account_in, of_suite, salt_in, suite_numbered, with_salt}

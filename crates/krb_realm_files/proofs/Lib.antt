@@ -5,7 +5,7 @@ mod Said
 mod Written
 mod Keyed
 mod Fitting
-mod Headers
 mod Unasked
 mod Parts
+mod Sources
 mod Answered

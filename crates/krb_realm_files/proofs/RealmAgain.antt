@@ -5,9 +5,9 @@ use Rattle.std.proofs.lemmas.Bool.{le-leb, and_parts, leb-true}
 use Rattle.std.proofs.lemmas.Bool.Decides.{nat_tests}
 use Rattle.byteorder.specs.Numbers.{little_number-reads_back}
 use Rattle.byte_streams.specs.Numbers.{le32, le32_at}
-use Rattle.krb_accounts.specs.Names.{is_realm_name}
-use Rattle.krb_accounts.specs.Settings.{AreSettings, SettingsRecord}
-use Rattle.krb_accounts.specs.declared.policy.Policy.{Policy}
+use Rattle.krb_realm_accounts.specs.Names.{is_realm_name}
+use Rattle.krb_realm_accounts.specs.Settings.{AreSettings, SettingsRecord}
+use Rattle.krb_realm_accounts.specs.declared.policy.Policy.{Policy}
 use Rattle.krb_realm_files.specs.RealmRecords.{is_pkinit, is_recorded, named_realm, pkinit_in, pkinit_octets, realm_bytes, realm_in, policy_number, policy_of, settings_of}
 use Rattle.krb_realm_files.specs.declared.realm_parameters.RealmParameters.{RealmParameters}
 

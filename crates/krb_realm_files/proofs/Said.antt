@@ -1,9 +1,9 @@
 -- What a file says of its realm and its accounts.
 use Rattle.std.proofs.Common.{◌≡◌, ℕ, List, Option, None, Some, Result, Ok, Err, IfOk, IfErr, true, false, refl, sym, ap, subst, inl, inr, ◌∙◌}
 use Rattle.std.specs.declared.io.ErrorKind.{ErrorKind}
-use Rattle.krb_accounts.specs.Account.{AccountRecord}
-use Rattle.krb_accounts.specs.Accounts.{Look}
-use Rattle.krb_accounts.specs.Packed.{fit, packed}
+use Rattle.krb_realm_accounts.specs.Account.{AccountRecord}
+use Rattle.krb_realm_accounts.specs.Accounts.{Look}
+use Rattle.krb_realm_accounts.specs.Packed.{fit, packed}
 use Rattle.cdb.specs.Find.{GivesData, looked_up}
 use Rattle.cdb.specs.Reading.{Fails}
 use Rattle.cdb.specs.declared.fault.Fault.{Fault}

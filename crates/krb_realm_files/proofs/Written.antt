@@ -2,8 +2,8 @@
 use Rattle.std.proofs.Common.{◌≡◌, ℕ, List, [], ◌∷◌, ◌++◌, Option, None, Some, Result, Ok, Bool, true, false, nat_eq, if◌then◌else◌, refl, sym, ap, ◌∙◌}
 use Rattle.std.proofs.lemmas.Bool.{and_parts, eqb-true}
 use Rattle.std.specs.Cmp.Lexicographic.{pointwise}
-use Rattle.krb_accounts.specs.Account.{AccountRecord}
-use Rattle.krb_accounts.specs.Packed.{fit, packed, unpacked, unpacked-packed}
+use Rattle.krb_realm_accounts.specs.Account.{AccountRecord}
+use Rattle.krb_realm_accounts.specs.Packed.{fit, packed, unpacked, unpacked-packed}
 use Rattle.cdb.specs.Find.{looked_up}
 use Rattle.cdb.specs.Records.{answer}
 use Rattle.cdb.specs.declared.records.Record.{Record}

@@ -4,7 +4,7 @@ use Rattle.std.specs.Prelude.{ℕ, ◌+◌, ◌==◌, ◌||◌, ◌&&◌, nat_lt
 use Rattle.byte_streams.specs.Numbers.{le32, le32_at}
 use Rattle.krb_crypto.specs.declared.suite.CipherSuite.{CipherSuite}
 use Rattle.krb_crypto.specs.Suites.{cipher_key_size, cipher_number, cipher_suites}
-use Rattle.krb_accounts.specs.Account.{AccountRecord}
+use Rattle.krb_realm_accounts.specs.Account.{AccountRecord}
 use Rattle.krb_realm_files.specs.declared.format.TheConstants.{ACCOUNT_HEAD, RECORD_VERSION}
 
 -- The suite of these that has a number, if one has it.

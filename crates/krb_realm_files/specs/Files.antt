@@ -1,13 +1,13 @@
 -- What a file's octets say of the realm and of its accounts.
 --
--- An account's record is under its name's block (`packed` of krb_accounts). The realm's record is under the one octet 255. That is no
+-- An account's record is under its name's block (`packed` of krb_realm_accounts). The realm's record is under the one octet 255. That is no
 -- name's block: the octets of a block are those of the name's characters, each plus one, and zeros, and a character is below 128.
 use Rattle.std.specs.Prelude.{◌≡◌, ◌⊎◌, List, [], ◌∷◌, ℕ, take, Option, None, Some, Result, Ok, Err, if◌then◌else◌}
 use Rattle.std.specs.declared.io.ErrorKind.{ErrorKind}
 use Rattle.picky_asn1.specs.Bytes.{Bytes}
-use Rattle.krb_accounts.specs.Account.{AccountRecord}
-use Rattle.krb_accounts.specs.Accounts.{Look}
-use Rattle.krb_accounts.specs.Packed.{fit, packed}
+use Rattle.krb_realm_accounts.specs.Account.{AccountRecord}
+use Rattle.krb_realm_accounts.specs.Accounts.{Look}
+use Rattle.krb_realm_accounts.specs.Packed.{fit, packed}
 use Rattle.cdb.specs.Find.{looked_up}
 use Rattle.cdb.specs.declared.fault.Fault.{Fault}
 use Rattle.cdb.specs.declared.fault.Fault.TheVariants as database

@@ -4,10 +4,9 @@ pub mod RealmRecords
 pub mod Files
 pub mod Held
 pub mod Named
-pub mod Asked
 pub mod Faults
-pub mod Headers
 pub mod Lacks
 pub mod Means
 pub mod RefusedPkinit
+pub mod Sources
 pub mod Replies

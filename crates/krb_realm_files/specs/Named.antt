@@ -2,10 +2,10 @@
 use Rattle.std.specs.Prelude.{◌≡◌, true, nat_eq, List, [], ◌∷◌, None, Some, if◌then◌else◌}
 use Rattle.std.specs.Cmp.Lexicographic.{pointwise}
 use Rattle.picky_asn1.specs.Bytes.{Bytes}
-use Rattle.krb_accounts.specs.Account.{AccountRecord}
-use Rattle.krb_accounts.specs.Accounts.{Look}
-use Rattle.krb_accounts.specs.Names.{AreComponents}
-use Rattle.krb_accounts.specs.Packed.{fit, packed}
+use Rattle.krb_realm_accounts.specs.Account.{AccountRecord}
+use Rattle.krb_realm_accounts.specs.Accounts.{Look}
+use Rattle.krb_realm_accounts.specs.Names.{AreComponents}
+use Rattle.krb_realm_accounts.specs.Packed.{fit, packed}
 use Rattle.cdb.specs.declared.records.Record.{Record}
 use Rattle.krb_realm_files.specs.AccountRecords.{account_bytes, account_in}
 use Rattle.krb_realm_files.specs.Files.{realm_key}
@@ -13,7 +13,7 @@ use Rattle.krb_realm_files.specs.RealmRecords.{realm_bytes, realm_in}
 use Rattle.krb_realm_files.specs.declared.realm_parameters.RealmParameters.{RealmParameters}
 use Rattle.krb_realm_files.specs.declared.writing.NamedAccount.{NamedAccount}
 
--- The first account of a name. Names are the same if and only if their blocks are (`unpacked-packed` of krb_accounts).
+-- The first account of a name. Names are the same if and only if their blocks are (`unpacked-packed` of krb_realm_accounts).
 abbrev pub look_among : List NamedAccount → Look
 look_among [] name = None
 look_among (one ∷ accounts) name = if pointwise nat_eq (packed one.name.items) (packed name) then Some one.account else look_among accounts name

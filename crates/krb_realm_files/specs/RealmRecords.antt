@@ -4,10 +4,10 @@
 -- The policy is 0 where none is set, and 1 where it limits session keys of triple DES.
 use Rattle.std.specs.Prelude.{ℕ, ◌+◌, ◌==◌, ◌||◌, ◌&&◌, nat_le, nat_lt, not, Bool, true, List, [], ◌∷◌, ◌++◌, length, drop, take, slice_index, Option, None, Some, if◌then◌else◌}
 use Rattle.byte_streams.specs.Numbers.{le32, le32_at}
-use Rattle.krb_accounts.specs.Names.{is_realm_name}
-use Rattle.krb_accounts.specs.Settings.{SettingsRecord}
-use Rattle.krb_accounts.specs.declared.policy.Policy.{Policy}
-use Rattle.krb_accounts.specs.declared.settings.TheConstants.{LIFETIME_LIMIT, SKEW_LIMIT}
+use Rattle.krb_realm_accounts.specs.Names.{is_realm_name}
+use Rattle.krb_realm_accounts.specs.Settings.{SettingsRecord}
+use Rattle.krb_realm_accounts.specs.declared.policy.Policy.{Policy}
+use Rattle.krb_realm_accounts.specs.declared.settings.TheConstants.{LIFETIME_LIMIT, SKEW_LIMIT}
 use Rattle.krb_realm_files.specs.declared.format.TheConstants.{LIMITS_DES3, PKINIT_ROOM, REALM_HEAD, RECORD_VERSION}
 use Rattle.krb_realm_files.specs.declared.realm_parameters.RealmParameters.{RealmParameters}
 

@@ -4,12 +4,14 @@ use Rattle.std.specs.declared.io.ErrorKind.{ErrorKind}
 use Rattle.picky_asn1.specs.Bytes.{Bytes}
 use Rattle.krb_messages.specs.RandomBytes.{Random}
 use Rattle.krb_time.specs.Units.{Micros}
-use Rattle.krb_accounts.specs.Accounts.{Look}
+use Rattle.krb_realm_accounts.specs.Accounts.{Look}
 use Rattle.krb_kdc_exchanges.specs.Call.{CallRecord}
 use Rattle.krb_kdc_exchanges.specs.Replies.{Replies}
-use Rattle.krb_realm_files.specs.Files.{IsLookOf, realm_said}
+use Rattle.krb_realm_files.specs.Files.{Holds, IsLookOf, realm_said}
 use Rattle.krb_realm_files.specs.declared.realm_parameters.RealmParameters.{RealmParameters}
 use Rattle.krb_kdc.specs.Begins.{IsNoRequest}
+use Rattle.krb_kdc.specs.Seen.{IsTold}
+use Rattle.krb_kdc.specs.declared.seen.Seen.{Seen}
 use Rattle.krb_realm_files.specs.Lacks.{IsLacking}
 use Rattle.krb_realm_files.specs.Means.{AreMeansIn, rows_of}
 use Rattle.krb_realm_files.specs.RefusedPkinit.{refused_rows}
@@ -51,3 +53,10 @@ RepliesFrom {F} opens content message moment words (Some reply) =
 abbrev pub MayLack : {F : Type 0} → (F → Type 0) → (ErrorKind → Type 0) → (F → Option Bytes) → (F → ErrorKind → Type 0) → Type 0
 MayLack {F} opens fails content read_fails =
     ((kind : ErrorKind) × fails kind) ⊎ ((file : F) × opens file × IsLacking (content file) (read_fails file))
+
+-- An observer saw a message to the realm of a file, and its reply. The realm's name is that of the file, and its accounts
+-- are those of the file, if the file's octets are known.
+abbrev pub IsToldFrom : {V : Type 0} → (V → Seen → V → Type 0) → Option Bytes → Bytes → V → V → Bytes → Type 0
+IsToldFrom sees content message old new reply =
+    (realm : RealmParameters) × ((bytes : Bytes) → content ≡ Some bytes → realm_said bytes ≡ Ok realm)
+    × IsTold sees (Holds content) realm.name message old new reply

@@ -1,8 +1,8 @@
 //! A file of accounts.
 ghost use Rattle.std.specs.Prelude.{◌≡◌, ◌≤◌, ℕ, List, [], Some, IfErr, IfSome, IsTrue, length};
 ghost use Rattle.cdb.specs.Find.{looked_up};
-ghost use Rattle.krb_accounts.specs.Packed.{fit, packed};
-ghost use Rattle.krb_accounts.specs.declared.packed.TheConstants.{BLOCK_ROOM};
+ghost use Rattle.krb_realm_accounts.specs.Packed.{fit, packed};
+ghost use Rattle.krb_realm_accounts.specs.declared.packed.TheConstants.{BLOCK_ROOM};
 ghost use Rattle.krb_realm_files.specs.declared.format.TheConstants.{RECORD_ROOM};
 ghost use Rattle.krb_realm_files.specs.Files.{IsFallible, account_found, account_front, account_said, fault_of, realm_found, realm_front, realm_said};
 ghost use Rattle.krb_realm_files.specs.Reading.{IsSaid};
@@ -15,8 +15,8 @@ use crate::realm_parameters::RealmParameters;
 use crate::realm_record::read_realm;
 use arrayvec::ArrayVec;
 use cdb::{Fault, ReadAt, look_up};
-use krb_accounts::{Account, BLOCK_ROOM, pack_within};
 use krb_kdc::{Lookup, LookupFault};
+use krb_realm_accounts::{Account, BLOCK_ROOM, pack_within};
 use picky_asn1::wrapper::GeneralStringAsn1;
 use std::alloc::Global;
 

@@ -7,8 +7,8 @@ ghost use Rattle.krb_realm_files.specs.Reading.{IsReadAs};
 use crate::fault::RecordFault;
 use crate::format::{ACCOUNT_HEAD, RECORD_VERSION};
 use byte_streams::u32_le;
-use krb_accounts::Account;
 use krb_crypto::{CipherSuite, Key};
+use krb_realm_accounts::Account;
 use picky_asn1::wrapper::OctetStringAsn1;
 use std::alloc::{AllocError, Global};
 

@@ -1,22 +1,17 @@
 //! Answers from one opened file.
 ghost use Rattle.std.specs.Prelude.{◌≡◌, ◌⊎◌, ℕ, List, Some, IfErr, IfOk};
 ghost use Rattle.krb_messages.specs.RandomBytes.{AreEnoughForReply};
-ghost use Rattle.krb_accounts.specs.Accounts.{Look};
+ghost use Rattle.krb_realm_accounts.specs.Accounts.{Look};
 ghost use Rattle.krb_kdc.specs.Answers.{IsAnswerBy, MayRefuse};
-ghost use Rattle.krb_kdc.specs.Begins.{BeginsRequest};
-ghost use Rattle.krb_kdc.specs.Calls.{call_with};
+ghost use Rattle.krb_kdc.specs.Seen.{IsTold};
 ghost use Rattle.krb_realm_files.specs.Files.{Holds, IsFallible};
-ghost use Rattle.krb_realm_files.specs.Faults.{lookup_fault_of};
-ghost use Rattle.krb_realm_files.specs.Lacks.{AreUnusable, IsLacking, IsWithout};
-ghost use Rattle.krb_realm_files.specs.Replies.{FileReplies, ReplyByOctets, ReplyByRealm};
+ghost use Rattle.krb_realm_files.specs.Lacks.{IsLacking, IsWithout};
+ghost use Rattle.krb_realm_files.specs.Replies.{FileReplies, IsToldFrom, ReplyByRealm};
 
-use crate::asked::asks_by_certificate;
-use crate::means::means_in;
-use crate::pkinit_fault::PkinitFault;
-use crate::refused_pkinit::RefusedPkinit;
+use crate::realm_source::RealmSource;
 use crate::{AccountFile, RealmParameters, realm_of};
 use cdb::ReadAt;
-use krb_kdc::{LookupCall, LookupFault, LookupRefusal, answer_by, begins_request};
+use krb_kdc::{LookupCall, LookupRefusal, Observer, answer_observed, begins_request};
 use krb_time::Moment;
 use std::alloc::Global;
 
@@ -28,9 +23,12 @@ use std::alloc::Global;
 /// It refuses as `Unreadable` only if the message is no request. If the bytes begin none, nothing of the file is read. It refuses as
 /// `Fault` if the realm's record or an account can't be read, if a request by certificate can't be answered by the octets of the record,
 /// or if memory runs out. Then there is no reply, and no KRB-ERROR takes its place.
-pub fn answer_from<F: ReadAt>(
+///
+/// The observer sees each request that has a reply.
+pub fn answer_from<F: ReadAt, V: Observer>(
     alloc: Global,
     accounts: &AccountFile<F>,
+    observer: &mut V,
     message: &[u8],
     moment: Moment,
     words: &[u8],
@@ -39,30 +37,32 @@ pub fn answer_from<F: ReadAt>(
     ensures answer { (bytes : List ℕ) → F.content accounts.now.file ≡ Some bytes
         → IfOk result (λ reply. FileReplies bytes message.now moment words.now reply.items) }
     ensures refusal { IfErr result (MayRefuse (IsLacking (F.content accounts.now.file) (F.fails accounts.now.file)) message.now) }
+    ensures told { IfOk result (λ reply. IsToldFrom V.sees (F.content accounts.now.file) message.now observer.old observer.new reply.items) }
 {
     if !begins_request(message) {
         return Err(LookupRefusal::Unreadable);
     }
     let realm = realm_of(alloc, &accounts.file)?;
-    let answered = answer_for(alloc, accounts, &realm, message, moment, words);
+    let answered = answer_for(alloc, accounts, &realm, observer, message, moment, words);
     drop(realm);
     answered
 }
 
 // Returns the reply of this realm, with the accounts of a file.
-fn answer_for<F: ReadAt>(
+fn answer_for<F: ReadAt, V: Observer>(
     alloc: Global,
     accounts: &AccountFile<F>,
     realm: &RealmParameters,
+    observer: &mut V,
     message: &[u8],
     moment: Moment,
     words: &[u8],
 ) -> Result<Vec<u8>, LookupRefusal>
-    requires words { AreEnoughForReply words.now }
-    requires begins { BeginsRequest message.now }
+    requires { AreEnoughForReply words.now }
     ensures answer { (all : Look) → Holds (F.content accounts.now.file) all
         → IsAnswerBy (ReplyByRealm realm.now all message.now moment words.now) result }
     ensures refusal { IfErr result (MayRefuse (IsFallible (F.content accounts.now.file) (F.fails accounts.now.file) ⊎ IsWithout realm.now) message.now) }
+    ensures told { IfOk result (λ reply. IsTold V.sees (Holds (F.content accounts.now.file)) realm.now.name message.now observer.old observer.new reply.items) }
 {
     let call = LookupCall {
         realm: &realm.name,
@@ -70,54 +70,6 @@ fn answer_for<F: ReadAt>(
         moment,
         words,
     };
-    match &realm.pkinit {
-        Some(octets) => answer_by_octets(alloc, accounts, &call, octets.as_bytes(), message),
-        None => {
-            let none = RefusedPkinit { is_offered: false };
-            answer_by(alloc, accounts, &call, &none, message)
-        }
-    }
-}
-
-// Returns the same, where logins by certificate are answered by these octets.
-fn answer_by_octets<F: ReadAt>(
-    alloc: Global,
-    accounts: &AccountFile<F>,
-    call: &LookupCall<'_>,
-    octets: &[u8],
-    message: &[u8],
-) -> Result<Vec<u8>, LookupRefusal>
-    requires words { AreEnoughForReply call.now.words.now }
-    requires begins { BeginsRequest message.now }
-    ensures answer { (all : Look) → Holds (F.content accounts.now.file) all
-        → IsAnswerBy (ReplyByOctets octets.now (call_with call.now all) message.now) result }
-    ensures refusal { IfErr result (MayRefuse (IsFallible (F.content accounts.now.file) (F.fails accounts.now.file) ⊎ AreUnusable octets.now) message.now) }
-{
-    if !asks_by_certificate(alloc, message)? {
-        let unasked = RefusedPkinit { is_offered: true };
-        return answer_by(alloc, accounts, call, &unasked, message);
-    }
-    match means_in(alloc, octets) {
-        Ok(means) => {
-            let answered = answer_by(alloc, accounts, call, &means.pkinit(), message);
-            drop(means);
-            answered
-        }
-        Err(fault) => Err(LookupRefusal::Fault(lookup_fault_of(fault))),
-    }
-}
-
-// Returns the fault of a file whose octets are refused so.
-fn lookup_fault_of(fault: PkinitFault) -> LookupFault
-    ensures { result ≡ lookup_fault_of fault }
-{
-    match fault {
-        PkinitFault::Memory => LookupFault::Memory,
-        PkinitFault::NotThree
-        | PkinitFault::Certificate
-        | PkinitFault::Key
-        | PkinitFault::Refused(_)
-        | PkinitFault::OtherKey
-        | PkinitFault::Anchor => LookupFault::Damaged,
-    }
+    let source = RealmSource { realm };
+    answer_observed(alloc, accounts, &call, &source, observer, message)
 }

@@ -1,8 +1,8 @@
 //! What holds of every record and of every file. Each is a function that does nothing when it runs: its contract is the law.
 ghost use Rattle.std.specs.Prelude.{◌≡◌, ◌≤◌, ◌<◌, ◌^◌, ℕ, List, Some, IsTrue, length};
 ghost use Rattle.block_ciphers.specs.Bytes.{IsBytes};
-ghost use Rattle.krb_accounts.specs.Account.{AccountRecord};
-ghost use Rattle.krb_accounts.specs.Settings.{AreSettings};
+ghost use Rattle.krb_realm_accounts.specs.Account.{AccountRecord};
+ghost use Rattle.krb_realm_accounts.specs.Settings.{AreSettings};
 ghost use Rattle.krb_crypto.specs.Suites.{cipher_key_size};
 ghost use Rattle.krb_kdc_exchanges.specs.Calls.{AreKeyed};
 ghost use Rattle.krb_realm_files.specs.AccountRecords.{account_bytes, account_in};

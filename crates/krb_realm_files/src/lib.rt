@@ -15,17 +15,16 @@
 //! opened file, with all accounts of that file, where its octets are known (`RepliesFrom`). So a file that is replaced while a message is
 //! answered gives no mixture of two realms. A message is refused as `Unreadable` only if it is no request, and as `Accounts` only if the
 //! file may not be opened or read, or is damaged. `means_in` refuses a key that is too weak, and one that isn't the certificate's. The
-//! fault is given to [`FaultReporter`] before the refusal is returned. What [`Headed`] reads, also in the header that it has read before,
-//! is what the file within has there.
+//! fault is given to [`FaultReporter`] before the refusal is returned. What an observer sees is of the message, of its reply and of the
+//! opened file (`IsToldFrom`).
 #![tactic(auto)]
 
 mod account_file;
 mod account_record;
 mod answer;
-mod asked;
 mod fault;
+mod file_pkinit;
 mod format;
-mod headed;
 pub mod laws;
 mod means;
 mod opens;
@@ -34,6 +33,7 @@ mod realm;
 mod realm_fault;
 mod realm_parameters;
 mod realm_record;
+mod realm_source;
 mod refused_pkinit;
 mod writing;
 
@@ -42,11 +42,10 @@ pub use account_record::{account_bytes, read_account};
 pub use answer::answer_from;
 pub use fault::RecordFault;
 pub use format::{ACCOUNT_HEAD, PKINIT_ROOM, REALM_HEAD, REALM_KEY, RECORD_ROOM, RECORD_VERSION};
-pub use headed::Headed;
 pub use means::{PkinitMeans, PkinitParts, means_in, means_of};
 pub use opens::{AtPath, Opens};
 pub use pkinit_fault::PkinitFault;
-pub use realm::FileRealm;
+pub use realm::{FileRealm, find_realm};
 pub use realm_fault::{FaultReporter, FileFault, Silent};
 pub use realm_parameters::RealmParameters;
 pub use realm_record::{is_pkinit, read_realm, realm_bytes};

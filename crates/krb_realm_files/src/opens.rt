@@ -2,8 +2,7 @@
 ghost use Rattle.std.specs.Prelude.{◌≡◌, MatchResult};
 ghost use Rattle.std.specs.declared.io.ErrorKind.{ErrorKind};
 
-use crate::headed::Headed;
-use cdb::{FileAt, ReadAt};
+use cdb::{FileAt, Headed, ReadAt};
 use std::fs::{self, File, Files};
 use std::io::ErrorKind;
 

@@ -1,5 +1,5 @@
 //! What a file says of its realm.
-use krb_accounts::Settings;
+use krb_realm_accounts::Settings;
 use picky_asn1::wrapper::{GeneralStringAsn1, OctetStringAsn1};
 
 /// A realm's name, its settings, and what it answers logins by certificate by. A file has them beside the accounts.

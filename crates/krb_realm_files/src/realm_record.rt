@@ -8,7 +8,7 @@ use crate::fault::RecordFault;
 use crate::format::{LIMITS_DES3, PKINIT_ROOM, REALM_HEAD, RECORD_VERSION};
 use crate::realm_parameters::RealmParameters;
 use byte_streams::{u32_le, u32_le_bytes};
-use krb_accounts::{Policy, RealmRefusal, Settings, realm_name_of};
+use krb_realm_accounts::{Policy, RealmRefusal, Settings, realm_name_of};
 use picky_asn1::wrapper::OctetStringAsn1;
 use std::alloc::{AllocError, Global};
 
@@ -49,15 +49,16 @@ fn pkinit_in(alloc: Global, octets: &[u8]) -> Result<Option<OctetStringAsn1>, Al
 fn settings_of(skew: u64, lifetime: u64, policy: u32) -> Option<Settings>
     ensures { result ≡ settings_of skew lifetime policy }
 {
-    let Ok(settings) = Settings::new(skew, lifetime) else {
+    let known = Policy {
+        limits_des3: policy == LIMITS_DES3,
+    };
+    let Ok(settings) = Settings::of_policy(skew, lifetime, known) else {
         return None;
     };
     if LIMITS_DES3 < policy {
         return None;
     }
-    Some(settings.with_policy(Policy {
-        limits_des3: policy == LIMITS_DES3,
-    }))
+    Some(settings)
 }
 
 // Returns the number of a policy.

@@ -2,7 +2,7 @@
 ghost use Rattle.std.specs.Prelude.{◌≡◌, ◌⊎◌, false, List, Some, Ok, IfErr, IfOk, IsTrue, length};
 ghost use Rattle.picky_asn1.specs.Bytes.{Bytes};
 ghost use Rattle.std.specs.List.{list_all};
-ghost use Rattle.krb_accounts.specs.Names.{IsRealmName, are_components, is_realm_name};
+ghost use Rattle.krb_realm_accounts.specs.Names.{IsRealmName, are_components, is_realm_name};
 ghost use Rattle.krb_realm_files.specs.declared.format.TheConstants.{RECORD_ROOM};
 ghost use Rattle.krb_realm_files.specs.Files.{account_said, realm_key, realm_said};
 ghost use Rattle.krb_realm_files.specs.Named.{AreNamed, AreRecords, IsRealmRecord, IsRecordOf, look_among};
@@ -17,7 +17,7 @@ use crate::realm_parameters::RealmParameters;
 use crate::realm_record::{is_pkinit, realm_bytes};
 use arrayvec::ArrayVec;
 use cdb::{Record, WriteFault, write};
-use krb_accounts::{Account, BLOCK_ROOM, COMPONENT_LIMIT, is_realm_name};
+use krb_realm_accounts::{Account, BLOCK_ROOM, COMPONENT_LIMIT, is_realm_name};
 use picky_asn1::wrapper::GeneralStringAsn1;
 use std::alloc::{AllocError, Global};
 

@@ -7,7 +7,7 @@ use Rattle.std.specs.Option.{option_map}
 use Rattle.krb_crypto.specs.Suites.{cipher_key_size, cipher_suites}
 use Rattle.krb_crypto.specs.declared.suite.CipherSuite.{CipherSuite}
 use Rattle.krb_crypto.proofs.AllSuites.{found_passes}
-use Rattle.krb_accounts.specs.Names.{AreComponents, IsRealmName}
+use Rattle.krb_realm_accounts.specs.Names.{AreComponents, IsRealmName}
 use Rattle.krb_file_formats.specs.Entries.{Entry}
 use Rattle.krb_ap_requests.specs.Entry.{EntryRecord}
 use Rattle.krb_service.specs.KeytabEntries.{entries_of, entry_of, entry_with, is_record_of, is_suite_of, key_of}

@@ -4,8 +4,8 @@ use Rattle.std.specs.Ordering.{nat_cmp, ordering_then}
 use Rattle.std.specs.declared.cmp.Ordering.{Ordering}
 use Rattle.std.specs.declared.cmp.Ordering.TheVariants.{Equal}
 use Rattle.std.specs.Cmp.Lexicographic.{slice_cmp}
-use Rattle.krb_accounts.specs.Packed.{packed, unpacked, unpacked-packed}
-use Rattle.krb_accounts.proofs.Packing.{packed_cmp}
+use Rattle.krb_realm_accounts.specs.Packed.{packed, unpacked, unpacked-packed}
+use Rattle.krb_realm_accounts.proofs.Packing.{packed_cmp}
 use Rattle.krb_service.specs.Packed.{IsPacked, components_in, realm_in}
 use Rattle.krb_service.specs.Pair.{PairRecord}
 use Rattle.picky_asn1.specs.Bytes.{Bytes}

@@ -7,8 +7,8 @@ use Rattle.krb_time.specs.Units.{Micros, Seconds}
 use Rattle.krb_messages.specs.RandomBytes.{Random}
 use Rattle.krb_messages.specs.Messages.{IsApReq, sole_ap_req}
 use Rattle.krb_messages.specs.declared.messages.ap_req.ApReqInner.{ApReqInner}
-use Rattle.krb_accounts.specs.Names.{AreComponents, IsRealmName, are_components, is_realm_name}
-use Rattle.krb_accounts.specs.declared.settings.TheConstants.{SKEW_LIMIT}
+use Rattle.krb_realm_accounts.specs.Names.{AreComponents, IsRealmName, are_components, is_realm_name}
+use Rattle.krb_realm_accounts.specs.declared.settings.TheConstants.{SKEW_LIMIT}
 use Rattle.krb_file_formats.specs.Entries.{Entry}
 use Rattle.krb_ap_requests.specs.ApTable.{enc_part_in, presented}
 use Rattle.krb_ap_requests.specs.Entry.{EntryRecord}

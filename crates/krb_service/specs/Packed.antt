@@ -1,7 +1,7 @@
 -- A client's realm and name in one block of texts.
 use Rattle.std.specs.Prelude.{◌≡◌, List, [], ◌∷◌, drop, get_or}
 use Rattle.picky_asn1.specs.Bytes.{Bytes}
-use Rattle.krb_accounts.specs.Packed.{packed, unpacked}
+use Rattle.krb_realm_accounts.specs.Packed.{packed, unpacked}
 
 -- the first text of a block is the realm, and the others are the name's components
 abbrev pub realm_in : Bytes → Bytes

@@ -1,7 +1,7 @@
 //! A client and the time of an authenticator.
 ghost use Rattle.std.specs.Prelude.{◌≡◌, IfOk};
 
-use krb_accounts::pack;
+use krb_realm_accounts::pack;
 use krb_time::Moment;
 use picky_asn1::wrapper::GeneralStringAsn1;
 use std::alloc::{AllocError, Global};

@@ -7,7 +7,6 @@ ghost use Rattle.krb_service.specs.ApReply.{IsReplyOf, ap_rep_of, ap_rep_part_wi
 ghost use Rattle.krb_messages.specs.RandomBytes.{ap_reply_confounder, AreEnoughForSubkey};
 ghost use Rattle.krb_messages.specs.Messages.{ap_rep_tree, enc_ap_rep_part_tree};
 
-use decision_tables::both;
 use krb_constants::key_usages;
 use krb_constants::types::{AP_REP_MSG_TYPE, KERBEROS_VERSION};
 use krb_crypto::{CipherSuite, Key};
@@ -18,7 +17,7 @@ use krb_messages::messages::{ApRep, ApRepInner};
 use krb_messages::random_bytes::{AP_REPLY_CONFOUNDER, NONCE, SUBKEY_SEED};
 use krb_tickets::{confounder_at, encryption_key, key_at, sealed_data};
 use picky_asn1::wrapper::{IntegerAsn1, OctetStringAsn1};
-use picky_asn1_der::{ApplicationTag, ExplicitContextTag, Optional, encoding_of};
+use picky_asn1_der::{ApplicationTag, ExplicitContextTag, Optional, both, encoding_of};
 use std::alloc::{AllocError, Global};
 
 /// How many numbers have 31 bits.

@@ -2,7 +2,7 @@
 ghost use Rattle.std.specs.Prelude.{◌≡◌, ◌-◌, ◌*◌, ◌&&◌, false, max, nat_le, List, [], ◌∷◌, OnOk, OnErr};
 ghost use Rattle.std.specs.List.{filter};
 ghost use Rattle.std.specs.Set.{distinct_count};
-ghost use Rattle.krb_accounts.specs.Settings.{IsSkew};
+ghost use Rattle.krb_realm_accounts.specs.Settings.{IsSkew};
 ghost use Rattle.krb_time.specs.Skew.{is_far, IsWithinDay};
 ghost use Rattle.krb_service.specs.Pair.{PairRecord, is_among, is_same_pair, is_recent};
 ghost use Rattle.krb_service.specs.Seen.{IsWholeSeconds, IsWindow};

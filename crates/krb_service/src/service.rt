@@ -3,24 +3,24 @@ ghost use Rattle.std.specs.Prelude.{◌≡◌, ◌≤◌, ◌⊎◌, List, lengt
 ghost use Rattle.std.specs.List.{filter};
 ghost use Rattle.std.specs.Set.{distinct_count};
 ghost use Rattle.krb_messages.specs.RandomBytes.{AreEnoughForApReply};
-ghost use Rattle.krb_accounts.specs.Names.{parts};
+ghost use Rattle.krb_realm_accounts.specs.Names.{parts};
 ghost use Rattle.krb_service.specs.Pair.{PairRecord, is_recent, is_same_pair};
 ghost use Rattle.krb_service.specs.Seen.{IsWindow};
 ghost use Rattle.krb_service.specs.ApReply.{random_size};
 ghost use Rattle.krb_service.specs.RememberingService.{IsStep, remembering, remembering_with};
 ghost use Rattle.krb_service.specs.Service.{IsService, made, making};
-ghost use Rattle.krb_accounts.specs.declared.refusal.RealmRefusal.{RealmRefusal};
+ghost use Rattle.krb_realm_accounts.specs.declared.refusal.RealmRefusal.{RealmRefusal};
 
 use crate::admission::Admission;
 use crate::entry::KeytabEntry;
 use crate::once::admit_once_with;
 use crate::reply::ReplyFields;
 use crate::seen::Seen;
-use krb_accounts::{
-    RealmRefusal, SKEW_LIMIT, are_components, components_of, is_realm_name, realm_name_of,
-};
 use krb_ap_requests::AdmitRefusal;
 use krb_crypto::{CipherSuite, Key};
+use krb_realm_accounts::{
+    RealmRefusal, SKEW_LIMIT, are_components, components_of, is_realm_name, realm_name_of,
+};
 use krb_time::Moment;
 use std::alloc::Global;
 use std::marker::Model;

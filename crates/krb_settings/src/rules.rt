@@ -3,8 +3,8 @@
 use crate::messages::other_than_expected;
 use crate::outline::Outline;
 use crate::{Field, Place, Remark, suite_at, suite_name};
-use krb_accounts::{CHARACTER_LIMIT, COMPONENT_LIMIT, SKEW_LIMIT};
 use krb_crypto::CipherSuite;
+use krb_realm_accounts::{CHARACTER_LIMIT, COMPONENT_LIMIT, SKEW_LIMIT};
 use std::alloc::{AllocError, Global};
 use std::fmt;
 use toml::Value;

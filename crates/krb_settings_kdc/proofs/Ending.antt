@@ -8,7 +8,7 @@ use Rattle.x509_keys.specs.KeyFunctions.{no_functions}
 use Rattle.krb_kdc.specs.Begins.{BeginsRequest}
 use Rattle.krb_memory_realms.specs.Answers.{RealmReplies}
 use Rattle.krb_memory_realms.specs.Realm.{RealmState}
-use Rattle.krb_programs.specs.Devices.{Devices, ServesAt}
+use Rattle.krb_frames.specs.Devices.{Devices, ServesAt}
 use Rattle.krb_settings_kdc.specs.declared.stop.Stop.{Stop}
 use Rattle.krb_settings_kdc.specs.declared.stop.Stop.TheVariants.{BadArguments, BadSettings, Fault}
 use Rattle.krb_settings_kdc.specs.Files.{HasFault, IsRealmFile}

@@ -3,12 +3,12 @@ use Rattle.std.specs.Prelude.{ℕ, suc, nat_le, ◌&&◌, if◌then◌else◌, L
 use Rattle.std.specs.FinMap as finite
 use Rattle.krb_crypto.specs.declared.suite.CipherSuite.{CipherSuite}
 use Rattle.krb_time.specs.Units.{Seconds}
-use Rattle.krb_accounts.specs.Account.{AccountRecord}
-use Rattle.krb_accounts.specs.Accounts.{AccountMap}
-use Rattle.krb_accounts.specs.Passwords.{password_account, password_salt}
-use Rattle.krb_accounts.specs.Settings.{most_lifetime, most_skew}
-use Rattle.krb_accounts.specs.declared.refusal.RealmRefusal.{RealmRefusal}
-use Rattle.krb_accounts.specs.declared.refusal.RealmRefusal.TheVariants.{BadSetting}
+use Rattle.krb_realm_accounts.specs.Account.{AccountRecord}
+use Rattle.krb_realm_accounts.specs.Accounts.{AccountMap}
+use Rattle.krb_realm_accounts.specs.Passwords.{password_account, password_salt}
+use Rattle.krb_realm_accounts.specs.Settings.{most_lifetime, most_skew}
+use Rattle.krb_realm_accounts.specs.declared.refusal.RealmRefusal.{RealmRefusal}
+use Rattle.krb_realm_accounts.specs.declared.refusal.RealmRefusal.TheVariants.{BadSetting}
 use Rattle.krb_memory_realms.specs.Realm.{RealmState, making, made, adding, adding_by_password, first_key}
 use Rattle.krb_memory_realms.specs.Settings.{SettingsState, settings_by}
 use Rattle.krb_settings.specs.Steps.{◌>>=◌}

@@ -8,7 +8,7 @@ ghost use Rattle.krb_settings_kdc.specs.Realms.{realm_of_settings};
 
 use crate::fault::RealmFault;
 use crate::realm::realm_of_settings;
-use krb_accounts::RealmRefusal;
+use krb_realm_accounts::RealmRefusal;
 use krb_settings::{
     Place, RealmSettings, Remark, Rule, SettingsFault, explain, explain_rule, read_settings_file,
     warnings_of,

@@ -18,7 +18,8 @@ use std::time::Clock;
 /// or `YYYYMMDDHHMMSSZ` (RFC 4120, section 5.2.3). It gives how many frames were answered.
 ///
 /// What is wrong is found in this order: the number of arguments and the moment, the reading of the settings file, the
-/// opening of the file of random bytes, what the settings file holds. Where it stops with status 1, nothing was read or written.
+/// opening of the file of random bytes, what the settings file holds. Where it stops with status 1, nothing of `reader` was read, and nothing written
+/// to `writer`.
 pub fn run_with_arguments<F: Files + Clock + AllocGlobal, R: Source, W: Sink>(
     rt: &F,
     arguments: &[String],

@@ -1,6 +1,6 @@
 //! Why a settings file is no realm's.
 
-use krb_accounts::RealmRefusal;
+use krb_realm_accounts::RealmRefusal;
 use krb_settings::SettingsFault;
 use thiserror::Error;
 

@@ -4,11 +4,11 @@ use crate::PROGRAM;
 use crate::console::run_with_arguments;
 use crate::stop::Stop;
 use byte_streams::{Sink, Source, Watched};
-use krb_accounts::{USUAL_LIFETIME, USUAL_SKEW};
 use krb_crypto::CipherSuite;
-use krb_frames::ServeFault;
+use krb_frames::{ServeFault, serve_at};
 use krb_memory_realms::{Answering, Realm, Settings};
-use krb_programs::{Streams, read_arguments, serve_at, stop_program};
+use krb_programs::{Process, stop_program};
+use krb_realm_accounts::{USUAL_LIFETIME, USUAL_SKEW};
 use krb_time::Moment;
 use std::alloc::Global;
 use std::io;
@@ -32,8 +32,10 @@ pub fn run_process(rt: &HostRuntime) -> ExitCode {
 
 // Serves standard input, as the arguments say, and gives how many frames were answered.
 fn run(rt: &HostRuntime) -> Result<u64, Stop> {
-    let arguments = read_arguments(rt)?;
-    let mut streams = Streams::open(rt)?;
+    let Process {
+        arguments,
+        mut streams,
+    } = Process::open(rt)?;
     if arguments.is_empty() {
         return serve_stored(rt.alloc(), &mut streams.reader, &mut streams.writer);
     }

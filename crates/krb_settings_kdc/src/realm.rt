@@ -1,6 +1,6 @@
 //! The realm of a settings file.
 ghost use Rattle.std.specs.Prelude.{◌≡◌, ◌⊎◌, Err, Ok, MatchResult, OnOk, map};
-ghost use Rattle.krb_accounts.specs.Refusal.{IsMemoryAside};
+ghost use Rattle.krb_realm_accounts.specs.Refusal.{IsMemoryAside};
 ghost use Rattle.krb_settings.specs.Steps.{IsAside};
 ghost use Rattle.krb_settings.specs.Written.{shown_account, shown_realm};
 ghost use Rattle.krb_memory_realms.specs.Realm.{making, made};
@@ -8,8 +8,8 @@ ghost use Rattle.krb_settings_kdc.specs.Files.{HasFault, IsRealmFile};
 ghost use Rattle.krb_settings_kdc.specs.Realms.{adding_account, in_account, in_realm, realm_of_settings, settings_of, with_account, with_accounts};
 
 use crate::fault::RealmFault;
-use krb_accounts::RealmRefusal;
 use krb_memory_realms::{Realm, Settings};
+use krb_realm_accounts::RealmRefusal;
 use krb_settings::{AccountSettings, RealmSettings, Secret, SettingsFault, read_settings_file};
 use std::alloc::Global;
 

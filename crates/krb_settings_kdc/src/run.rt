@@ -1,13 +1,13 @@
 //! A run with settings.
 ghost use Rattle.std.specs.Prelude.{◌≡◌};
-ghost use Rattle.krb_programs.specs.Devices.{device, devices};
+ghost use Rattle.krb_frames.specs.Devices.{device, devices};
 ghost use Rattle.krb_settings_kdc.specs.Runs.{IsEnd};
 
 use crate::realm::realm_of_file;
 use crate::stop::Stop;
 use byte_streams::{Sink, Source};
+use krb_frames::serve_at;
 use krb_memory_realms::Answering;
-use krb_programs::serve_at;
 use krb_time::Moment;
 use std::alloc::Global;
 use x509_keys::NoKeys;
@@ -15,8 +15,8 @@ use x509_keys::NoKeys;
 /// Answers the frames of `reader` on `writer` for the realm of a settings file, each at one moment and with the next 128
 /// random bytes of `words_reader`. The realm has no key functions. It gives how many frames were answered.
 ///
-/// It stops by `BadSettings` where the file is no realm's: nothing was read or written then. It stops by a fault where serving stopped
-/// early, or where memory ran out before it.
+/// It stops by `BadSettings` where the file is no realm's: no message was read then, and nothing written. It stops by a fault where serving
+/// stopped early, or where memory ran out before it.
 pub fn run_settings<K: Source, R: Source, W: Sink>(
     alloc: Global,
     settings: &[u8],

@@ -4,4 +4,3 @@ pub mod Opening
 mod PaddedTexts
 pub mod Reading
 mod Opened
-mod EncryptedTimestamp

@@ -3,7 +3,7 @@
 use Rattle.std.specs.Prelude.{◌≡◌, ℕ, Some}
 use Rattle.picky_asn1.specs.Bytes.{Bytes}
 use Rattle.asn1_der.specs.Tree.{Tree, der}
-use Rattle.krb_accounts.specs.Account.{AccountRecord}
+use Rattle.krb_realm_accounts.specs.Account.{AccountRecord}
 use Rattle.krb_messages.specs.declared.data_types.enc_ticket_part.EncTicketPartInner.{EncTicketPartInner}
 use Rattle.krb_messages.specs.declared.data_types.encrypted_data.EncryptedData.{EncryptedData}
 use Rattle.krb_messages.specs.declared.messages.kdc_rep.KdcRep.{KdcRep}

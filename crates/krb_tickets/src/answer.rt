@@ -3,8 +3,7 @@ ghost use Rattle.std.specs.Prelude.{◌≡◌};
 ghost use Rattle.krb_tickets.specs.Answers.{is_answer};
 
 use krb_messages::messages::{EncKdcRepPart, KdcRep};
-use krb_messages::{is_same_name, is_same_realm};
-use picky_asn1::is_number;
+use krb_messages::{is_number, is_same_name, is_same_realm};
 use picky_asn1::wrapper::GeneralStringAsn1;
 
 /// Whether a reply, with its part opened, answers the request that a client of this realm and of these components made for

@@ -9,15 +9,14 @@ ghost use Rattle.krb_tickets.specs.Parts.{ticket_of, ticket_part};
 
 use crate::parts::ticket_part;
 use crate::sealed_data;
-use decision_tables::both;
-use krb_accounts::Account;
 use krb_constants::key_usages;
 use krb_constants::types::{ENC_TICKET_PART_TYPE, KERBEROS_VERSION};
 use krb_crypto::CipherSuite;
 use krb_messages::data_types::{EncTicketPartInner, EncryptedData, PrincipalName, TicketInner};
+use krb_realm_accounts::Account;
 use picky_asn1::date::GeneralizedTime;
 use picky_asn1::wrapper::{GeneralStringAsn1, IntegerAsn1, OctetStringAsn1};
-use picky_asn1_der::{ExplicitContextTag, LentFields, tagged_encoding};
+use picky_asn1_der::{ExplicitContextTag, LentFields, both, tagged_encoding};
 use std::alloc::{AllocError, Global};
 
 /// What a ticket is granted with, in an AS or a TGS exchange. Names are borrowed: each message that holds one copies it once.

@@ -9,8 +9,8 @@ ghost use Rattle.krb_tickets.specs.ReplyKeys.{reply_key_of};
 use crate::confounder_at;
 use crate::grant::{Grant, sealed_ticket};
 use crate::reply::{ReplyKey, reply_bytes, sealed_reply};
-use krb_accounts::Account;
 use krb_messages::random_bytes::{REPLY_CONFOUNDER, TICKET_CONFOUNDER};
+use krb_realm_accounts::Account;
 use std::alloc::{AllocError, Global};
 
 /// Makes the reply with the ticket (RFC 4120, section 5.4.2): the ticket's part under the service's key, with its kvno, and

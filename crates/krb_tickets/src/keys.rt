@@ -5,7 +5,7 @@ ghost use Rattle.krb_tickets.specs.Keys.{is_key_of, suite_of};
 
 use krb_crypto::{Cipher, CipherSuite, Key};
 use krb_messages::data_types::EncryptionKey;
-use picky_asn1::is_number;
+use krb_messages::is_number;
 
 /// The suite that a key is one of, by its type and its length, or none (RFC 4120, section 5.2.9).
 pub fn suite_of(key: &EncryptionKey) -> Option<CipherSuite>

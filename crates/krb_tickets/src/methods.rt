@@ -2,9 +2,9 @@
 ghost use Rattle.std.specs.Prelude.{◌≡◌, IfOk};
 ghost use Rattle.krb_tickets.specs.MethodData.{method_list, key_entry, key_info_bytes, method_data_bytes, pa_data_of, salt_of};
 
-use krb_accounts::Account;
 use krb_constants::padata_types::{PA_ENC_TIMESTAMP, PA_ETYPE_INFO2, PA_PK_AS_REQ};
 use krb_messages::data_types::{EtypeInfo2, EtypeInfo2Entry, KerberosStringAsn1, PaData};
+use krb_realm_accounts::Account;
 use picky_asn1::wrapper::{Asn1SequenceOf, GeneralStringAsn1, IntegerAsn1, OctetStringAsn1};
 use picky_asn1_der::{ExplicitContextTag, Optional, encoding_of};
 use std::alloc::{AllocError, Global};

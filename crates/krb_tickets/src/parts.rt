@@ -5,7 +5,6 @@ ghost use Rattle.krb_tickets.specs.Parts.{flags_octet, flags_of, last_requests, 
 
 use crate::encryption_key;
 use crate::grant::{Grant, TicketFlags};
-use decision_tables::both;
 use krb_constants::ticket_flags::{INITIAL_MASK, PRE_AUTHENT_MASK};
 use krb_messages::data_types::{
     EncTicketPartInner, KerberosFlags, LastReq, LastReqInner, TransitedEncoding,
@@ -15,7 +14,7 @@ use picky_asn1::date::GeneralizedTime;
 use picky_asn1::wrapper::{
     Asn1SequenceOf, BitStringAsn1, GeneralizedTimeAsn1, IntegerAsn1, OctetStringAsn1,
 };
-use picky_asn1_der::{ExplicitContextTag, LentFields, Optional};
+use picky_asn1_der::{ExplicitContextTag, LentFields, Optional, both};
 use std::alloc::{AllocError, Global};
 
 /// The encoding of transited realms that RFC 4120 names, DOMAIN-X500-COMPRESS (section 7.5.5).

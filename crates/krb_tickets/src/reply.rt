@@ -11,8 +11,6 @@ use crate::grant::{Grant, ticket_of};
 use crate::methods::pa_data;
 use crate::parts::reply_part;
 use crate::sealed_data;
-use decision_tables::both;
-use krb_accounts::Account;
 use krb_constants::key_usages;
 use krb_constants::padata_types::PA_PK_AS_REP;
 use krb_constants::types::{
@@ -22,9 +20,11 @@ use krb_constants::types::{
 use krb_crypto::Key;
 use krb_messages::data_types::{EncryptedData, PaData};
 use krb_messages::messages::{EncKdcRepPart, KdcRep};
+use krb_realm_accounts::Account;
 use picky_asn1::wrapper::{Asn1SequenceOf, IntegerAsn1};
 use picky_asn1_der::{
-    ApplicationTag, ExplicitContextTag, ExplicitContextTag2, LentFields, Optional, tagged_encoding,
+    ApplicationTag, ExplicitContextTag, ExplicitContextTag2, LentFields, Optional, both,
+    tagged_encoding,
 };
 use std::alloc::{AllocError, Global};
 

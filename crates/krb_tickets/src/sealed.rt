@@ -8,7 +8,7 @@ use crate::find::open_whole;
 use asn1_codec::Deserialize;
 use krb_crypto::Key;
 use krb_messages::data_types::EncryptedData;
-use picky_asn1::is_number;
+use krb_messages::is_number;
 use std::alloc::{AllocError, Global};
 
 /// The value that is sealed in the data under this key, for this usage, or none (RFC 4120, section 5.2.9).

@@ -4,5 +4,4 @@ pub mod Moment
 pub mod Skew
 pub mod Times
 pub mod SecondOf
-pub mod Counts
 pub mod Epoch

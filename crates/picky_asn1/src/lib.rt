@@ -12,11 +12,9 @@ mod general_string;
 mod integer;
 mod integer_text;
 mod list_of;
-mod numbers;
 mod octet_string;
 pub mod restricted_string;
 pub mod tag;
 pub mod wrapper;
 
 pub use asn1_leaves::{LeafFault, date, oid};
-pub use numbers::is_number;

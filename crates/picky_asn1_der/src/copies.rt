@@ -3,7 +3,7 @@
 //! A derived `clone` drops on each of its ways out all that it has copied by then, so that its proof grows with the square of the
 //! fields. Here one generic function copies a field and those behind it, and a record's `clone` has one way out.
 
-ghost use Rattle.std.specs.Prelude.{IfOk};
+ghost use Rattle.std.specs.Prelude.{◌≡◌, Err, IfOk, Ok};
 
 use std::alloc::AllocError;
 
@@ -48,5 +48,22 @@ impl<'a, A: Clone + Drop, B: LentFields<Fields>, Fields> LentFields<(A, Fields)>
         let first = self.0.clone()?;
         let others = self.1.copied()?;
         Ok((first, others))
+    }
+}
+
+/// Both values, or the first error.
+///
+/// Nested, it makes the parts of a record with one way out.
+pub fn both<A: Drop, B: Drop, E: Drop>(
+    first: Result<A, E>,
+    second: Result<B, E>,
+) -> Result<(A, B), E>
+    ensures values { IfOk result (λ pair. (first ≡ Ok pair.0) × (second ≡ Ok pair.1)) }
+    ensures first_error { (error : E) → first ≡ Err error → result ≡ Err error }
+    ensures second_error { (value : A) (error : E) → first ≡ Ok value → second ≡ Err error → result ≡ Err error }
+{
+    match (first, second) {
+        (Ok(first), Ok(second)) => Ok((first, second)),
+        (Err(error), _) | (Ok(_), Err(error)) => Err(error),
     }
 }

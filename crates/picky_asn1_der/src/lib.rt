@@ -95,6 +95,7 @@ pub use choice::Last;
 pub use container::OctetStringContainer;
 pub use copies::LentFields;
 pub use copies::RecordFields;
+pub use copies::both;
 pub use default::DefaultField;
 pub use default::HasDefault;
 pub use element::Element;

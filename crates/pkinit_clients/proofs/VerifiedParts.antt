@@ -20,7 +20,7 @@ use Rattle.krb_messages.specs.declared.data_types.pa_data.PaData.{PaData}
 use Rattle.krb_messages.specs.Messages.{IsAsRep}
 use Rattle.krb_messages.specs.MessageTrees.{kdc_rep_inner_tree}
 use Rattle.krb_messages.specs.declared.messages.kdc_rep.KdcRep.{KdcRep}
-use Rattle.krb_tickets.specs.Padata.{first_of, first_padata}
+use Rattle.krb_messages.specs.Padata.{first_of, first_padata}
 use Rattle.krb_kdc_exchanges.proofs.RequestParts.{within}
 use Rattle.cms_signed_data.specs.Parts.{attributes_place, certificate_place}
 use Rattle.cms_signed_data.specs.SignedContents.{IsSignedContent}

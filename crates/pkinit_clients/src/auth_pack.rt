@@ -4,12 +4,11 @@ ghost use Rattle.sha1.specs.Sha1.{sha1};
 ghost use Rattle.krb_messages.specs.Bodies.{body_bytes};
 ghost use Rattle.pkinit_clients.specs.AuthPacks.{auth_pack_bytes, auth_pack_of, authenticator_of};
 
-use decision_tables::both;
 use krb_messages::body_bytes;
 use krb_messages::messages::KdcReqBody;
 use picky_asn1::date::GeneralizedTime;
 use picky_asn1::wrapper::{GeneralizedTimeAsn1, IntegerAsn1, OctetStringAsn1};
-use picky_asn1_der::{Asn1RawDer, ExplicitContextTag, Optional, encoding_of};
+use picky_asn1_der::{Asn1RawDer, ExplicitContextTag, Optional, both, encoding_of};
 use pkinit_messages::{AuthPack, PkAuthenticator};
 use sha1::Sha1;
 use std::alloc::{AllocError, Global};

@@ -10,7 +10,7 @@ use crate::fault::ReplyFault;
 use crate::reading::{read_kdc_dh_key_info, read_pa_pk_as_rep};
 use crate::signer::check_signed;
 use cms_signed_data::{SignedContent, SignedFault};
-use picky_asn1::is_number;
+use krb_messages::is_number;
 use pkinit_messages::{KdcDhKeyInfo, PaPkAsRep};
 use std::alloc::Global;
 use x509_keys::{KeyFunctions, Theirs};

@@ -10,8 +10,8 @@ use krb_account_texts::{
     change_key, check_order, disable, enable, read_key, read_lines, read_name, remove, suite_named,
     text_of,
 };
-use krb_accounts::Account;
 use krb_crypto::Key;
+use krb_realm_accounts::Account;
 use picky_asn1::wrapper::OctetStringAsn1;
 use std::alloc::Global;
 use test_support::rows::replay;
@@ -51,7 +51,7 @@ impl Rows for AccountTexts {
     }
 }
 
-/// Whether a name can be typed, or a pattern stands for a name, where the row has `yes`.
+/// Whether a name can be typed, or a pattern matches a name, where the row has `yes`.
 fn is_as_told(alloc: Global, what: &str, row: &mut Row<'_>) -> anyhow::Result<bool> {
     let first = unfolded(alloc, row.word())?;
     let found = if what == "typed" {

@@ -5,7 +5,7 @@
 mod replies;
 
 use anyhow::bail;
-use replies::{entry_of, reply_of, text_of};
+use replies::{answer_of, text_of};
 use test_support::rows::replay;
 use test_support::{Row, Rows};
 
@@ -45,8 +45,8 @@ fn is_answered(rt: &HostRuntime, path: &str, row: &mut Row<'_>) -> anyhow::Resul
     let _label = row.word();
     let message = row.octets(rt.alloc());
     let (reply, entry) = (row.word(), row.word());
-    let answered = reply_of(rt, path, &message)?;
-    let logged = entry_of(rt, path, &message, &answered)?;
-    let text = text_of(rt.alloc(), &answered)?;
+    let noted = answer_of(rt, path, &message)?;
+    let logged = noted.entry?.to_string(rt.alloc())?;
+    let text = text_of(rt.alloc(), &noted.answered)?;
     Ok(text.as_str() == reply && logged.as_str() == entry)
 }

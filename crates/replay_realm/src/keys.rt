@@ -1,9 +1,8 @@
 //! The key functions of a row.
 
 use anyhow::bail;
-use decision_tables::both;
 use krb_realm::{Anchor, SignatureAlgorithm};
-use picky_asn1_der::{Asn1RawDer, part_at};
+use picky_asn1_der::{Asn1RawDer, both, part_at};
 use std::alloc::Global;
 use test_support::{DigestKeys, KnownKey};
 use x509_algorithms::AlgorithmIdentifier;

@@ -7,7 +7,6 @@ use crate::certificates::BothKeys;
 use crate::stage::{Conditions, Stage};
 use crate::told::{login_text, refused};
 use anyhow::Context;
-use decision_tables::both;
 use gss_acceptor::{AcceptorTerms, ContextFlags, InitialChecksum};
 use gss_initiator::NO_BINDINGS;
 use gss_logins::is_honest;
@@ -16,6 +15,7 @@ use krb_realm::{
     Service, is_honest_by_certificate, is_honest_by_password, login_by_certificate,
     login_by_password,
 };
+use picky_asn1_der::both;
 use std::alloc::Global;
 use test_support::{Row, Told};
 

@@ -5,12 +5,12 @@ use crate::stage::Stage;
 use crate::told::{done, refused};
 use crate::words::{given, suite_of};
 use anyhow::{Context, bail};
-use krb_accounts::{Account, Accounts};
 use krb_crypto::Key;
 use krb_realm::{
     Anchor, CipherSuite, KeyFunctions, NoKeys, Realm, RealmRefusal, Settings, serve_bytes,
     words_needed,
 };
+use krb_realm_accounts::{Account, Accounts};
 use std::alloc::Global;
 use test_support::{Row, Told, components_of};
 
@@ -169,7 +169,7 @@ fn add_of_number(
     if number == 0 {
         bail!("numbers count from 1");
     }
-    let name = krb_accounts::components_of(alloc, name)?;
+    let name = krb_realm_accounts::components_of(alloc, name)?;
     let key = Key::new(AES256, &[1; 32])?;
     accounts.insert_new(name, Account::new(key, number, None))?;
     Ok(())

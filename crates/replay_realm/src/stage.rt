@@ -5,10 +5,10 @@ use crate::line::Line;
 use crate::words::{second_of, start};
 use crate::{ask, broken, login, many, parts, realms, services, take};
 use anyhow::{Context, bail};
-use decision_tables::both;
 use krb_realm::{
     ApAsked, AsAsked, Client, Credential, GeneralizedTime, Moment, NoKeys, Realm, Service, TgsAsked,
 };
+use picky_asn1_der::both;
 use std::alloc::Global;
 use test_support::{Row, Told};
 

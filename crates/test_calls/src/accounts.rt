@@ -1,10 +1,10 @@
 //! Accounts by their names, and how refusals print.
 
-use krb_accounts::{
+use krb_crypto::{CipherSuite, Key};
+use krb_realm_accounts::{
     Account, Accounts, RealmRefusal, Settings, are_components, components_of, is_realm_name,
     password_salt, realm_name_of,
 };
-use krb_crypto::{CipherSuite, Key};
 use picky_asn1::wrapper::{GeneralStringAsn1, OctetStringAsn1};
 use std::alloc::Global;
 

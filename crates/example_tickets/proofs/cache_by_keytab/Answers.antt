@@ -3,7 +3,7 @@ use Rattle.std.specs.Result.{IsErrAnd}
 use Rattle.decision_tables.specs.Tables.{Table, done}
 use Rattle.picky_asn1.specs.Bytes.{Bytes}
 use Rattle.krb_file_formats.specs.Caches.{Cache}
-use Rattle.krb_accounts.specs.Names.{parts}
+use Rattle.krb_realm_accounts.specs.Names.{parts}
 use Rattle.krb_client.specs.Client.{ClientRecord, CredentialRecord}
 use Rattle.krb_client_exchanges.specs.Courses.{Course, Runs, ◌>>=◌, judged}
 use Rattle.krb_client_exchanges.specs.Events.{Event}

@@ -5,14 +5,16 @@ ghost use Rattle.krb_tickets.specs.ReplyKeys.{reply_key_of};
 ghost use Rattle.krb_kdc_exchanges.specs.Preauthentication.{reply_key_by};
 ghost use Rattle.krb_kdc_exchanges.specs.Call.{call_of};
 ghost use Rattle.krb_kdc_exchanges.specs.Grants.{granted, initial_grant, principals_of};
+ghost use Rattle.krb_kdc_exchanges.specs.Granting.{IsGrantedTicket};
 ghost use Rattle.krb_tickets.specs.Grant.{grant_of};
 
 use crate::as_exchange::judge::Preauthentication;
+use crate::granted::{Granted, granted_reply};
 use crate::{Call, Span, session_key};
-use krb_accounts::Account;
 use krb_messages::data_types::PrincipalName;
 use krb_messages::messages::KdcReqBody;
-use krb_tickets::{Grant, ReplyKey, TicketFlags, ticket_reply};
+use krb_realm_accounts::Account;
+use krb_tickets::{Grant, ReplyKey, TicketFlags};
 use std::alloc::{AllocError, Global};
 
 /// The client and the service of a request, with their accounts.
@@ -36,13 +38,14 @@ pub(crate) fn grant(
     authenticated: &Preauthentication,
     span: Span,
     body: &KdcReqBody,
-) -> Result<Vec<u8>, AllocError>
+) -> Result<Granted, AllocError>
     requires { AreEnoughForReply call.now.words.now }
-    ensures { IfOk result (λ bytes. (granted (call_of call.now) (principals_of principals.entry) (reply_key_by principals.entry.client.now authenticated.now) span body.now).gives (Ok bytes.items)) }
+    ensures reply { IfOk result (λ made. (granted (call_of call.now) (principals_of principals.entry) (reply_key_by principals.entry.client.now authenticated.now) span body.now).gives (Ok made.reply.items)) }
+    ensures ticket { IfOk result (λ made. IsGrantedTicket made.reply.items made.ticket) }
 {
     let grant = initial_grant(alloc, call, principals, span, body)?;
     let under = reply_key_by(authenticated, principals.client);
-    let made = ticket_reply(alloc, &grant, &under, principals.service, call.words);
+    let made = granted_reply(alloc, &grant, &under, principals.service, call.words);
     drop(grant);
     made
 }

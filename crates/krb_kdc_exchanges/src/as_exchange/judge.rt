@@ -6,17 +6,15 @@ ghost use Rattle.krb_kdc_exchanges.specs.Preauthentication.{reply_key_as};
 ghost use Rattle.krb_kdc_exchanges.specs.Call.{call_of};
 ghost use Rattle.krb_messages.specs.Refusals.{IsJudged};
 
-use crate::{Agreed, Call, Pkinit, PkinitCall, Span, lasting, padata_in};
-use krb_accounts::Account;
+use crate::{Agreed, Call, Pkinit, PkinitCall, Span, lasting, moment_of, open_encrypted_timestamp};
 use krb_constants::error_codes;
 use krb_constants::padata_types::{PA_ENC_TIMESTAMP, PA_PK_AS_REQ};
 use krb_crypto::diffie_hellman::agreed_key;
 use krb_crypto::{CipherSuite, Key};
-use krb_messages::Refusal;
 use krb_messages::data_types::PaData;
 use krb_messages::messages::{KdcReq, KdcReqBody};
-use krb_tickets::{first_of, moment_of, open_encrypted_timestamp};
-use picky_asn1::is_number;
+use krb_messages::{Refusal, first_of, is_number, padata_in};
+use krb_realm_accounts::Account;
 use picky_asn1::wrapper::GeneralStringAsn1;
 use std::alloc::Global;
 

@@ -1,11 +1,12 @@
 //! Laws of every AS request.
 ghost use Rattle.std.specs.Prelude.{◌≡◌, ℕ, List, [], ◌∷◌, Some, IsSome};
 ghost use Rattle.asn1_der.specs.Length.{element};
-ghost use Rattle.krb_kdc_exchanges.specs.Requests.{body_of, padata_in};
+ghost use Rattle.krb_kdc_exchanges.specs.Requests.{body_of};
+ghost use Rattle.krb_messages.specs.Padata.{padata_in};
 ghost use Rattle.krb_messages.specs.Bodies.{body_bytes};
 ghost use Rattle.krb_messages.specs.Messages.{IsAsReq};
 ghost use Rattle.krb_messages.specs.declared.messages.kdc_req.KdcReq.{KdcReq};
-ghost use Rattle.krb_tickets.specs.Padata.{first_of};
+ghost use Rattle.krb_messages.specs.Padata.{first_of};
 ghost use Rattle.picky_asn1.specs.Bytes.{Bytes};
 ghost use Rattle.picky_asn1_der.specs.Parts.{IsPart};
 ghost use Rattle.asn1_der.specs.Octets.{octet_string_octet};

@@ -7,12 +7,12 @@ ghost use Rattle.krb_kdc_exchanges.specs.Granting.{IsGranted};
 
 use crate::as_exchange::grant::{Principals, grant};
 use crate::as_exchange::judge::{authenticate, check_possible};
-use crate::{Call, Pkinit, check_header, client_of, service_of};
-use krb_accounts::Account;
+use crate::{Call, Granted, Pkinit, check_header, client_of, service_of};
 use krb_constants::error_codes;
 use krb_constants::types::AS_REQ_MSG_TYPE;
 use krb_messages::Refusal;
 use krb_messages::messages::KdcReq;
+use krb_realm_accounts::Account;
 use std::alloc::Global;
 
 /// Judges an AS request by the realm's table, for the accounts of client and service if they have one (RFC 4120, section
@@ -24,7 +24,7 @@ pub fn judge_as<P: Pkinit>(
     client: Option<&Account>,
     service: Option<&Account>,
     request: &KdcReq,
-) -> Result<Vec<u8>, Refusal>
+) -> Result<Granted, Refusal>
     requires { AreEnoughForReply call.now.words.now }
     ensures { IsGranted (as_table (call_of call.now) (P.rows pkinit.now) (option_copied client.entry) (option_copied service.entry) request.now).gives result }
 {
@@ -51,8 +51,8 @@ pub fn judge_as<P: Pkinit>(
         service_name,
         service,
     };
-    let reply = grant(alloc, call, principals, &authenticated, span, body);
+    let made = grant(alloc, call, principals, &authenticated, span, body);
     drop(authenticated);
-    let reply = reply?;
-    Ok(reply)
+    let made = made?;
+    Ok(made)
 }

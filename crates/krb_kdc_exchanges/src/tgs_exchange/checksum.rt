@@ -10,8 +10,7 @@ use krb_constants::{error_codes, key_usages};
 use krb_crypto::{ChecksumSuite, Cipher, Key};
 use krb_messages::data_types::{AuthenticatorInner, Checksum};
 use krb_messages::messages::KdcReqBody;
-use krb_messages::{Refusal, body_bytes};
-use picky_asn1::is_number;
+use krb_messages::{Refusal, body_bytes, is_number};
 use picky_asn1::wrapper::IntegerAsn1;
 use std::alloc::{AllocError, Global};
 

@@ -10,18 +10,18 @@ ghost use Rattle.krb_crypto.specs.Keys.{KeyRecord};
 ghost use Rattle.krb_kdc_exchanges.specs.SessionKeys.{HasSessionKey, under};
 ghost use Rattle.krb_kdc_exchanges.specs.TgsTable.{first_granted, first_number, further, further_grant, has_des3_key, is_des3, is_granted, reply_key, subkey_in, suite_numbered, without_des3};
 
+use crate::granted::{Granted, granted_reply};
 use crate::{Call, Span, lasting, session_key};
-use krb_accounts::Account;
 use krb_ap_requests::Authenticated;
 use krb_constants::{error_codes, ticket_flags};
 use krb_crypto::{CipherSuite, Key};
-use krb_messages::Refusal;
 use krb_messages::data_types::{
     AuthenticatorInner, EncTicketPartInner, EncryptionKey, PrincipalName,
 };
 use krb_messages::messages::KdcReqBody;
-use krb_tickets::{Grant, ReplyKey, TicketFlags, key_of, ticket_reply};
-use picky_asn1::is_number;
+use krb_messages::{Refusal, is_number};
+use krb_realm_accounts::Account;
+use krb_tickets::{Grant, ReplyKey, TicketFlags, key_of};
 use picky_asn1::wrapper::IntegerAsn1;
 use std::alloc::{AllocError, Global};
 
@@ -44,7 +44,7 @@ pub(crate) fn grant(
     service_name: &PrincipalName,
     service: &Account,
     body: &KdcReqBody,
-) -> Result<Vec<u8>, Refusal>
+) -> Result<Granted, Refusal>
     requires words { AreEnoughForReply call.now.words.now }
     requires key { HasSessionKey opened.now }
     ensures { IsGranted (further (call_of call.now) opened.now.part.now opened.now.authenticated.now service_name.now service.now body.now).gives result }
@@ -60,10 +60,10 @@ pub(crate) fn grant(
     };
     let under = reply_key(opened.key, &subkey);
     let grant = further_grant(alloc, call, part, service_name, suite, body, span)?;
-    let made = ticket_reply(alloc, &grant, &under, service, call.words);
+    let made = granted_reply(alloc, &grant, &under, service, call.words);
     drop(grant);
-    let reply = made?;
-    Ok(reply)
+    let made = made?;
+    Ok(made)
 }
 
 // Whether session keys of triple DES are held back from the ticket's client and the service.

@@ -7,7 +7,6 @@ ghost use Rattle.krb_messages.specs.Refusals.{IsJudged};
 
 use crate::{Call, check_header};
 use decision_tables::if_passed;
-use krb_accounts::Account;
 use krb_ap_requests::{
     Authenticated, check_authenticator, check_fields, check_times, enc_part_in, open_ticket,
     read_ap_req,
@@ -17,8 +16,8 @@ use krb_constants::types::TGS_REQ_MSG_TYPE;
 use krb_constants::{error_codes, key_usages};
 use krb_messages::data_types::{EncTicketPartInner, PaData};
 use krb_messages::messages::{ApReqInner, KdcReq};
-use krb_messages::{Refusal, is_same_realm};
-use krb_tickets::first_of;
+use krb_messages::{Refusal, first_of, is_same_realm};
+use krb_realm_accounts::Account;
 use picky_asn1::wrapper::GeneralStringAsn1;
 use std::alloc::Global;
 

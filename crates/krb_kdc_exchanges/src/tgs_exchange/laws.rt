@@ -2,9 +2,9 @@
 ghost use Rattle.std.specs.Prelude.{◌≡◌, ◌≢◌, ℤ, false, true, List, [], ◌∷◌, Option, Some, IsSome};
 ghost use Rattle.std.specs.List.{find};
 ghost use Rattle.std.specs.Option.{is_some};
-ghost use Rattle.krb_accounts.specs.Account.{AccountRecord};
-ghost use Rattle.krb_accounts.specs.declared.policy.Policy.{Policy};
-ghost use Rattle.krb_accounts.specs.declared.policy.TheConstants.{NO_POLICY};
+ghost use Rattle.krb_realm_accounts.specs.Account.{AccountRecord};
+ghost use Rattle.krb_realm_accounts.specs.declared.policy.Policy.{Policy};
+ghost use Rattle.krb_realm_accounts.specs.declared.policy.TheConstants.{NO_POLICY};
 ghost use Rattle.krb_crypto.specs.declared.suite.CipherSuite.TheVariants.{Des3CbcSha1Kd};
 ghost use Rattle.krb_kdc_exchanges.specs.TgsTable.{first_granted, has_des3_key, holds_back_des3, suite_numbered, suite_of_first};
 ghost use Rattle.krb_kdc_exchanges.specs.Requests.{body_of};

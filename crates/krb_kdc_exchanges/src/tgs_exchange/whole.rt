@@ -12,18 +12,18 @@ use crate::tgs_exchange::grant::{OpenedApReq, grant};
 use crate::tgs_exchange::judge::{
     carried, check_request, open_authenticator, open_ticket_granting,
 };
-use crate::{Call, padata_in, service_of};
+use crate::{Call, Granted, service_of};
 use krb_ap_requests::Authenticated;
 use krb_constants::error_codes;
 use krb_crypto::Key;
 use krb_messages::data_types::{EncTicketPartInner, PrincipalName};
 use krb_messages::messages::{ApReqInner, KdcReq, KdcReqBody};
-use krb_messages::{Refusal, krbtgt_of};
+use krb_messages::{Refusal, krbtgt_of, padata_in};
 use std::alloc::Global;
 
 /// Judges a TGS request by the realm's table (RFC 4120, section 3.3.3). It gives the reply that grants the service ticket, or
 /// the error code.
-pub fn judge_tgs(alloc: Global, call: &Call<'_>, request: &KdcReq) -> Result<Vec<u8>, Refusal>
+pub fn judge_tgs(alloc: Global, call: &Call<'_>, request: &KdcReq) -> Result<Granted, Refusal>
     requires { AreEnoughForReply call.now.words.now }
     ensures { IsGranted (tgs_table (call_of call.now) request.now).gives result }
 {
@@ -41,7 +41,7 @@ fn judge_carried(
     call: &Call<'_>,
     body: &KdcReqBody,
     ap_req: &ApReqInner,
-) -> Result<Vec<u8>, Refusal>
+) -> Result<Granted, Refusal>
     requires { AreEnoughForReply call.now.words.now }
     ensures { IsGranted (of_carried (call_of call.now) body.now ap_req.now).gives result }
 {
@@ -62,7 +62,7 @@ fn judge_ticket(
     body: &KdcReqBody,
     ap_req: &ApReqInner,
     part: &EncTicketPartInner,
-) -> Result<Vec<u8>, Refusal>
+) -> Result<Granted, Refusal>
     requires { AreEnoughForReply call.now.words.now }
     ensures { IsGranted (of_ticket (call_of call.now) body.now ap_req.now part.now).gives result }
 {
@@ -79,7 +79,7 @@ fn judge_authenticated(
     body: &KdcReqBody,
     part: &EncTicketPartInner,
     authenticated: &Authenticated,
-) -> Result<Vec<u8>, Refusal>
+) -> Result<Granted, Refusal>
     requires words { AreEnoughForReply call.now.words.now }
     requires suite { suite_of part.now.key.0 ≡ Some authenticated.now.suite }
     ensures { IsGranted (of_authenticated (call_of call.now) body.now part.now authenticated.now).gives result }
@@ -111,7 +111,7 @@ fn judge_accounts(
     call: &Call<'_>,
     opened: &OpenedApReq<'_>,
     body: &KdcReqBody,
-) -> Result<Vec<u8>, Refusal>
+) -> Result<Granted, Refusal>
     requires words { AreEnoughForReply call.now.words.now }
     requires key { HasSessionKey opened.now }
     ensures { IsGranted (tgs_granted (call_of call.now) opened.now.part.now opened.now.authenticated.now body.now).gives result }

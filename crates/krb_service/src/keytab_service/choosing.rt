@@ -11,11 +11,10 @@ ghost use Rattle.krb_service.specs.KeytabService.{ReceivesByKeytab};
 
 use crate::KeytabEntry;
 use krb_ap_requests::{AdmitRefusal, Presented, enc_part_in, read_ap_req};
-use krb_messages::Refusal;
 use krb_messages::data_types::EncryptedData;
 use krb_messages::messages::ApReqInner;
+use krb_messages::{Refusal, is_number};
 use krb_time::Moment;
-use picky_asn1::is_number;
 use std::alloc::Global;
 
 /// What bytes present at a moment to the service of the entry that judges them, up to the time that they tell (RFC 4120, section 3.2.3).

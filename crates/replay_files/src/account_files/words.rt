@@ -2,8 +2,8 @@
 
 use anyhow::Context;
 use cdb::ReadAt;
-use krb_accounts::Account;
-use krb_kdc::{Lookup, LookupFault, LookupRefusal};
+use krb_kdc::{Lookup, LookupFault, LookupRefusal, Unobserved};
+use krb_realm_accounts::Account;
 use krb_realm_files::{AccountFile, RealmParameters, answer_from, realm_of};
 use krb_time::Moment;
 use picky_asn1::wrapper::{GeneralStringAsn1, OctetStringAsn1};
@@ -110,7 +110,14 @@ pub(crate) fn reply_words<F: ReadAt>(
     let moment = Moment::from_text(b"20000101000000Z").context("no moment")?;
     words_of_reply(
         alloc,
-        answer_from(alloc, accounts, message, moment, &random_words()),
+        answer_from(
+            alloc,
+            accounts,
+            &mut Unobserved,
+            message,
+            moment,
+            &random_words(),
+        ),
     )
 }
 

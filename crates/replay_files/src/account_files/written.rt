@@ -3,8 +3,8 @@
 use super::words::{name_of, octets_of, text_of};
 use anyhow::{Context, bail};
 use cdb::WriteFault;
-use krb_accounts::{Account, Settings};
 use krb_crypto::{CipherSuite, Key};
+use krb_realm_accounts::{Account, Settings};
 use krb_realm_files::{NamedAccount, RealmParameters, write_accounts};
 use picky_asn1::wrapper::OctetStringAsn1;
 use std::alloc::Global;

@@ -7,11 +7,10 @@ ghost use Rattle.std.specs.Prelude.{◌≡◌, length};
 mod texts;
 
 use anyhow::{Context, bail};
-use krb_client::{AsAsked, AskRefusal, ByKey, Client, Credential};
+use krb_client::{AsAsked, AskRefusal, ByKey, Client, Credential, TicketRequest};
 use krb_client_exchanges::{
-    HintedClientRefusal, KeyHint, USUAL_SUITES, Wanted, as_request_of_suites, client_by_hint,
-    first_request, key_hint, key_hint_of_reply, suite_of_reply, taken_of_suites,
-    tgs_request_of_suites,
+    HintedClientRefusal, KeyHint, USUAL_SUITES, Wanted, client_by_hint, first_request, key_hint,
+    key_hint_of_reply, suite_of_reply, taken_of_suites,
 };
 use krb_crypto::CipherSuite;
 use krb_time::Moment;
@@ -116,15 +115,13 @@ fn is_request(alloc: Global, row: &Hinted<'_>) -> anyhow::Result<bool> {
 fn ask(alloc: Global, row: &Hinted<'_>, client: &Client) -> anyhow::Result<(Vec<u8>, AsAsked)> {
     let service = krbtgt(alloc, row.realm)?;
     let words = words();
-    let asked = first_request(
-        alloc,
-        client,
-        &row.suites,
-        &service,
-        till()?,
-        moment()?,
-        &words,
-    )?;
+    let request = TicketRequest {
+        service: &service,
+        till: till()?,
+        moment: moment()?,
+        words: &words,
+    };
+    let asked = first_request(alloc, client, &row.suites, &request)?;
     Ok(asked)
 }
 
@@ -215,18 +212,14 @@ fn is_request_with_padata(alloc: Global, row: &Hinted<'_>, expected: &str) -> an
         &row.password,
     )?;
     let service = krbtgt(alloc, row.realm)?;
-    let till = till()?;
     let words = words();
-    let made = as_request_of_suites(
-        alloc,
-        &client,
-        &row.suites,
-        &means,
-        &service,
-        till,
-        moment()?,
-        &words,
-    );
+    let request = TicketRequest {
+        service: &service,
+        till: till()?,
+        moment: moment()?,
+        words: &words,
+    };
+    let made = client.as_request_of_suites(alloc, &means, &row.suites, &request);
     ends_with(alloc, made, expected)
 }
 
@@ -246,18 +239,14 @@ fn is_request_by(
     granting: &Credential,
     expected: &str,
 ) -> anyhow::Result<bool> {
-    let till = till()?;
     let words = words();
-    let made = tgs_request_of_suites(
-        alloc,
-        client,
-        &row.suites,
-        granting,
-        &row.name,
-        till,
-        moment()?,
-        &words,
-    );
+    let request = TicketRequest {
+        service: &row.name,
+        till: till()?,
+        moment: moment()?,
+        words: &words,
+    };
+    let made = client.tgs_request_of_suites(alloc, granting, &row.suites, &request);
     ends_with(alloc, made, expected)
 }
 

@@ -1,25 +1,22 @@
 //! The replies of a file's realm.
 
 use anyhow::{Context, bail};
-use krb_frames::{AnswerRefusal, Responder};
-use krb_log::{Entry, Explains, RefusalsOfFile};
+use krb_frames::AnswerRefusal;
+use krb_log::{Noted, noted_answer};
 use krb_realm_files::{AtPath, FileRealm, Silent};
 use krb_time::Moment;
 use std::alloc::Global;
 
-/// What the realm of the file with this path answers at the first second of 2000, with the random octets 0 to 127.
-pub(crate) fn reply_of(
-    rt: &HostRuntime,
-    path: &str,
-    message: &[u8],
-) -> anyhow::Result<Result<Vec<u8>, AnswerRefusal>> {
+/// What the realm of the file with this path answers at the first second of 2000, with the random octets 0 to 127, and the entry of its
+/// line.
+pub(crate) fn answer_of(rt: &HostRuntime, path: &str, message: &[u8]) -> anyhow::Result<Noted> {
     let moment = Moment::from_text(b"20000101000000Z").context("no moment")?;
     let accounts = AtPath { files: rt, path };
     let realm = FileRealm {
         accounts: &accounts,
         faults: &Silent,
     };
-    Ok(realm.answer(rt.alloc(), message, moment, &words()))
+    Ok(noted_answer(rt.alloc(), &realm, rt, message, moment, &words()))
 }
 
 // The random octets of each reply: 0 to 127.
@@ -31,25 +28,6 @@ fn words() -> [u8; 128] {
         next = next.wrapping_add(1);
     }
     words
-}
-
-/// The entry of a message and its answer, as a line of the log has it, with what the file with this path tells of a refusal.
-pub(crate) fn entry_of(
-    rt: &HostRuntime,
-    path: &str,
-    message: &[u8],
-    answered: &Result<Vec<u8>, AnswerRefusal>,
-) -> anyhow::Result<String> {
-    let mut entry = Entry::of(rt.alloc(), message, answered)?;
-    if let Some(code) = entry.code_to_explain() {
-        let accounts = AtPath { files: rt, path };
-        let refusals = RefusalsOfFile {
-            accounts: &accounts,
-        };
-        entry.explanation = refusals.explain(rt.alloc(), message, code);
-    }
-    let text = entry.to_string(rt.alloc())?;
-    Ok(text)
 }
 
 /// A reply in hexadecimal, or the name of its refusal.

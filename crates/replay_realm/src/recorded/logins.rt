@@ -9,11 +9,12 @@ use crate::recorded::rows::Rows;
 use crate::recorded::telling::tell_login;
 use crate::stage::Random;
 use crate::words::{moment_of, octets_of, second_of, start, suite_of};
-use decision_tables::{both, if_passed};
+use decision_tables::if_passed;
 use krb_realm::{
     Admission, CipherSuite, Client, EncryptionKey, GeneralizedTime, KeyFunctions, LoginInput,
     LoginMoments, LoginRefusal, Realm, Service, login_by_certificate,
 };
+use picky_asn1_der::both;
 use std::alloc::Global;
 use test_support::{Row, Told, components_of};
 

@@ -2,8 +2,8 @@
 
 use crate::keys::RowKeys;
 use crate::words::octets_of;
-use decision_tables::both;
 use krb_realm::Anchor;
+use picky_asn1_der::both;
 use std::alloc::Global;
 use test_support::{DigestKeys, KnownKey};
 use x509_codec::to_vec;

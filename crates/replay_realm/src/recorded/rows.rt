@@ -1,6 +1,6 @@
 //! Going over the rows of a file.
 
-use decision_tables::both;
+use picky_asn1_der::both;
 use std::fs;
 use test_support::{Row, Told};
 

@@ -5,7 +5,6 @@ ghost use Rattle.std.specs.Prelude.{◌≤◌, length};
 use super::call::{Call, suite_of};
 use super::{Ends, is_named};
 use anyhow::{Context, bail};
-use decision_tables::both;
 use gss_acceptor::{ContextFlags, InitialChecksum};
 use gss_initiator::{
     InitiateRefusal, Initiated, NO_BINDINGS, Progress, Taken, TokenForm, bindings_of, initiate,
@@ -16,7 +15,7 @@ use krb_messages::data_types::{KerberosFlags, Ticket};
 use krb_time::Moment;
 use picky_asn1::date::GeneralizedTime;
 use picky_asn1::wrapper::BitStringAsn1;
-use picky_asn1_der::from_bytes;
+use picky_asn1_der::{both, from_bytes};
 use std::alloc::{AllocError, Global};
 use test_support::{Row, components_of};
 

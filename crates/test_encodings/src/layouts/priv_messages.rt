@@ -1,8 +1,8 @@
 //! The exchange that changes a password (RFC 3244, section 2): its messages by their productions (RFC 4120, sections 5.2.9,
 //! 5.3, 5.5 and 5.7.1), under the paths of the front.
 
+use krb_messages::is_number;
 use microsoft_messages::KrbPrivFrame;
-use picky_asn1::is_number;
 use picky_asn1_der::{Deserialize, Serialize, to_vec};
 use picky_krb::constants::types::{KERBEROS_VERSION, KRB_PRIV};
 use picky_krb::crypto::{CipherSuite, Key};

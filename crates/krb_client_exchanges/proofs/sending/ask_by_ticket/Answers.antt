@@ -1,4 +1,4 @@
-use Rattle.krb_accounts.specs.Names.{parts}
+use Rattle.krb_realm_accounts.specs.Names.{parts}
 use Rattle.krb_client_exchanges.specs.RequestKinds.{tgs_request_by}
 use Rattle.krb_client_exchanges.specs.Taking.{octets_first}
 use Rattle.krb_client_exchanges.proofs.Exchanging.{exchanged, no_occasion}

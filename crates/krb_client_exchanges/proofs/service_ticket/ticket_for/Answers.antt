@@ -1,5 +1,5 @@
 use Rattle.std.proofs.Common.{List, subst}
-use Rattle.krb_accounts.specs.Names.{parts}
+use Rattle.krb_realm_accounts.specs.Names.{parts}
 use Rattle.krb_crypto.specs.declared.suite.CipherSuite.{CipherSuite}
 use Rattle.krb_client_exchanges.specs.Courses.{Runs}
 use Rattle.krb_client_exchanges.specs.Logins.{ticket_for}

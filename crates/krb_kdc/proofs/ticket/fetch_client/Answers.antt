@@ -1,4 +1,6 @@
-use Rattle.krb_kdc.proofs.Fetched.{on_ok}
+use Rattle.std.proofs.Common.{None, Some, subst}
+use Rattle.picky_asn1_der.specs.Found.{IsFound}
+use Rattle.krb_kdc.specs.Tickets.{IsTicketOf}
 use Rattle.krb_kdc.proofs.Opened.{no_ticket, ticket_fetched}
 use Rattle.krb_kdc.proofs.ticket.fetch_client.Goals as goal
 
@@ -6,8 +8,15 @@ pub returns-in_default-clause-few : goal.returns-in_default-clause-few
 returns-in_default-clause-few g c = λ all known.
     no_ticket all c.args.granting.now _ c.padata_in.result.now c.args.few.now c.padata_in.ensures (rw c.in_default.is at c.in_ok-part.ensures)
 
-pub returns-clause-few : goal.returns-clause-few
-returns-clause-few g c = λ all known.
-    on_ok c.fetch-fetched.result _ _
-    (λ fetched. ticket_fetched all c.args.granting.now c.as_slice.result.now _ c.padata_in.result.now c.in-Some.part c.args.few.now c.fetch-fetched.new.few c.padata_in.ensures
-    c.as_slice.ensures (rw c.in-Some.is at c.in_ok-part.ensures) fetched) (c.fetch-fetched.ensures.few all known)
+pub returns-in_default-clause-ticket : goal.returns-in_default-clause-ticket
+returns-in_default-clause-ticket g c =
+    subst (λ p. IsFound (IsTicketOf c.args.few.now c.args.granting.now p) None) c.padata_in.ensures (rw c.in_default.is at c.in_ok-part.ensures)
+
+pub returns-in-Ok-clause-few : goal.returns-in-Ok-clause-few
+returns-in-Ok-clause-few g c = λ all known.
+    ticket_fetched all c.args.granting.now c.as_slice.result.now _ c.padata_in.result.now c.in-Some.part c.args.few.now c.fetch.new.few c.padata_in.ensures
+    c.as_slice.ensures (rw c.in-Some.is at c.in_ok-part.ensures) (c.in-Ok.ensures.few all known)
+
+pub returns-in-Ok-clause-ticket : goal.returns-in-Ok-clause-ticket
+returns-in-Ok-clause-ticket g c =
+    subst (λ p. IsFound (IsTicketOf c.args.few.now c.args.granting.now p) (Some c.in-Some.part)) c.padata_in.ensures (rw c.in-Some.is at c.in_ok-part.ensures)

@@ -1,6 +1,6 @@
 use Rattle.std.proofs.Common.{◌≡◌, Some, sym}
-use Rattle.krb_accounts.specs.Accounts.{look_in}
-use Rattle.krb_tickets.specs.Padata.{first_of}
+use Rattle.krb_realm_accounts.specs.Accounts.{look_in}
+use Rattle.krb_messages.specs.Padata.{first_of}
 use Rattle.krb_kdc.proofs.Opened.{ticket_found}
 use Rattle.krb_kdc.proofs.ticket.part_by.Goals as goal
 

@@ -18,8 +18,8 @@ returns-in-Ok g c =
     c.account_of-client.ensures ∙ ap (λ n. account_of call.look n) c.client_of.ensures in
     let service : option_copied c.account_of-service.result ≡ account_of call.look (service_of body) =
     c.account_of-service.ensures ∙ ap (λ n. account_of call.look n) c.service_of.ensures in
-    subst (λ a. IsGranted (as_table call rows a (account_of call.look (service_of body)) request).gives (Ok c.in-Ok.reply)) client
-    (subst (λ a. IsGranted (as_table call rows (option_copied c.account_of-client.result) a request).gives (Ok c.in-Ok.reply)) service c.in-Ok.ensures)
+    subst (λ a. IsGranted (as_table call rows a (account_of call.look (service_of body)) request).gives (Ok c.in-Ok.made)) client
+    (subst (λ a. IsGranted (as_table call rows (option_copied c.account_of-client.result) a request).gives (Ok c.in-Ok.made)) service c.in-Ok.ensures)
 
 pub returns-in_ok-e_data-in-Err-Krb : goal.returns-in_ok-e_data-in-Err-Krb
 returns-in_ok-e_data-in-Err-Krb g c =

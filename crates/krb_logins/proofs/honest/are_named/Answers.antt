@@ -1,6 +1,6 @@
 use Rattle.std.proofs.Common.{rules, ◌≡◌, true}
 use Rattle.krb_messages.specs.Names.{is_same_name, is_same_realm}
-use Rattle.krb_accounts.specs.Names.{parts}
+use Rattle.krb_realm_accounts.specs.Names.{parts}
 use Rattle.krb_logins.proofs.Names.{equal_names, equal_realms}
 use Rattle.krb_logins.proofs.honest.are_named.Goals as goal
 

@@ -1,5 +1,5 @@
 use Rattle.std.proofs.Common.{rules, ◌≡◌, true, Some, ap, sym, ◌∙◌}
-use Rattle.krb_accounts.specs.Account.{AccountRecord}
+use Rattle.krb_realm_accounts.specs.Account.{AccountRecord}
 use Rattle.krb_logins.specs.Honest.{IsHonestLogin}
 use Rattle.krb_logins.specs.Input.{held_by, login_of, realm_of}
 use Rattle.krb_logins.proofs.honest.is_honest_by_key.Goals as goal

@@ -1,4 +1,4 @@
-use Rattle.krb_accounts.specs.Names.{parts}
+use Rattle.krb_realm_accounts.specs.Names.{parts}
 use Rattle.krb_logins.specs.Input.{login_of}
 use Rattle.krb_logins.specs.declared.refusal.LoginRefusal.TheVariants.{Asked}
 use Rattle.krb_realm.specs.Logins.{AsAsk}

@@ -1,6 +1,6 @@
 use Rattle.std.proofs.Common.{◌≡◌, drop, take}
 use Rattle.arrayvec.specs.ArrayVec.{array_vec_len}
-use Rattle.krb_accounts.specs.Packed.{fit, fit_behind, packed}
+use Rattle.krb_realm_accounts.specs.Packed.{fit, fit_behind, packed}
 use Rattle.krb_realm_files.proofs.account_file.pack.Given as goal
 
 -- the block of the components so far, and what is left to fit

@@ -1,7 +1,12 @@
-use Rattle.krb_realm_files.proofs.Answered.{replied}
+use Rattle.krb_realm_files.proofs.Answered.{replied, told_from}
 use Rattle.krb_realm_files.proofs.answer.answer_from.Goals as goal
 
 pub returns-clause-answer : goal.returns-clause-answer
 returns-clause-answer g c = λ bytes known.
     replied bytes c.args.message.now c.args.moment c.args.words.now c.in_ok-realm.realm c.answer_for-answered.result (c.in_ok-realm.ensures.said bytes known)
     (λ all looks. c.answer_for-answered.ensures.answer all (bytes, known, looks))
+
+pub returns-clause-told : goal.returns-clause-told
+returns-clause-told g c =
+    told_from g.V.Observer.sees (g.F.ReadAt.content c.args.accounts.now.file) c.args.message.now _ _ c.in_ok-realm.realm c.answer_for-answered.result c.in_ok-realm.ensures.said
+    c.answer_for-answered.ensures.told

@@ -1,6 +1,6 @@
 use Rattle.std.proofs.Common.{◌≡◌, false, inr, refl, rules}
-use Rattle.krb_accounts.specs.Names.{are_components}
-use Rattle.krb_accounts.specs.Packed.{fit}
+use Rattle.krb_realm_accounts.specs.Names.{are_components}
+use Rattle.krb_realm_accounts.specs.Packed.{fit}
 use Rattle.krb_realm_files.proofs.Fitting.{unfit}
 use Rattle.krb_realm_files.proofs.writing.record_of_account.Goals as goal
 

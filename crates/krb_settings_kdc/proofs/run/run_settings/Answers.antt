@@ -1,5 +1,5 @@
 use Rattle.std.proofs.Common.{◌≡◌, refl}
-use Rattle.krb_programs.specs.Devices.{device, devices}
+use Rattle.krb_frames.specs.Devices.{device, devices}
 use Rattle.krb_settings_kdc.proofs.Ending.{exit_stopped, file_stopped}
 use Rattle.krb_settings_kdc.proofs.run.run_settings.Goals as goal
 

@@ -10,4 +10,4 @@ returns-clause-asks c = record {
 
 pub returns-clause-only : goal.returns-clause-only
 returns-clause-only c =
-    λ other asks. sole_ap_request c.args.self.now c.args.credential.now c.args.mutual_required c.args.with_subkey c.args.moment c.args.words.now other c.in_ok-bytes.bytes.items asks (returns-clause-asks c)
+    λ other asks. sole_ap_request c.args.self.now c.args.credential.now c.args.request.now.mutual_required c.args.request.now.with_subkey c.args.request.now.moment c.args.request.now.words.now other c.in_ok-bytes.bytes.items asks (returns-clause-asks c)

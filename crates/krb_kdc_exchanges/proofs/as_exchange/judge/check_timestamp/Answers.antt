@@ -1,8 +1,8 @@
 use Rattle.std.proofs.Common.{◌≡◌, true, false, None, Some, refl, sym, inl, inr, ◌∙◌}
 use Rattle.krb_time.specs.Skew.{is_far}
 use Rattle.krb_kdc_exchanges.specs.Call.{call_of, skew_of}
-use Rattle.krb_tickets.specs.Padata.{first_of}
-use Rattle.krb_tickets.specs.EncryptedTimestamps.{moment_of}
+use Rattle.krb_messages.specs.Padata.{first_of}
+use Rattle.krb_kdc_exchanges.specs.EncryptedTimestamps.{moment_of}
 use Rattle.krb_kdc_exchanges.proofs.as_exchange.judge.check_timestamp.Goals as goal
 
 pub returns-in_default-2 : goal.returns-in_default-2

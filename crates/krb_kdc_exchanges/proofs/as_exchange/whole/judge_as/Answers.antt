@@ -50,7 +50,7 @@ returns g c =
     let body = c.args.request.now.req_body.0 in
     given_ticket (call_of c.args.call.now) (g.P.Pkinit.rows c.args.pkinit.now) (option_copied c.args.client) (option_copied c.args.service) c.args.request.now
     (record { client_name = c.in-Some.client_name.now; client = c.in-Some-client.client.now; service_name = c.in-Some-service_of.service_name.now; service = c.in-Some-service.service.now })
-    c.in_ok-span.span (reply_key_by c.in-Some-client.client.now c.in_ok-authenticated.authenticated) c.in_ok-reply.reply
+    c.in_ok-span.span (reply_key_by c.in-Some-client.client.now c.in_ok-authenticated.authenticated) c.in_ok-made.made
     (record {
       header = c.in_ok-check_header.ensures;
       client_name = sym c.in-Some.ensures;
@@ -60,4 +60,4 @@ returns g c =
     })
     (subst (λ s. IsJudged (possible (call_of c.args.call.now) s body).gives (Ok c.in_ok-span.span)) c.suite.ensures c.in_ok-span.ensures)
     (subst (λ n. IsJudged (authenticated (call_of c.args.call.now) (g.P.Pkinit.rows c.args.pkinit.now) c.in-Some-client.client.now n c.args.request.now).gives (Ok (reply_key_by c.in-Some-client.client.now c.in_ok-authenticated.authenticated))) c.as_slice-name.ensures c.in_ok-authenticated.ensures)
-    c.in_ok-reply.ensures
+    c.in_ok-made.ensures.reply c.in_ok-made.ensures.ticket

@@ -6,7 +6,7 @@ use Rattle.krb_tickets.specs.ReplyKeys.{reply_key_of}
 use Rattle.krb_kdc_exchanges.specs.Call.{call_of}
 use Rattle.krb_kdc_exchanges.specs.SessionKeys.{under}
 use Rattle.krb_kdc_exchanges.specs.TgsTable.{first_granted}
-use Rattle.krb_kdc_exchanges.proofs.Granted.{given, no_key, no_suite}
+use Rattle.krb_kdc_exchanges.proofs.GrantedFurther.{given, no_key, no_suite}
 use Rattle.krb_kdc_exchanges.proofs.tgs_exchange.grant.grant.Goals as goal
 
 pub returns-in_default : goal.returns-in_default
@@ -27,11 +27,13 @@ pub returns : goal.returns
 returns c =
     let authenticated = c.args.opened.now.authenticated.now in
     let part = c.args.opened.now.part.now in
-    let session : KeyRecord = record { suite = authenticated.suite; bytes = part.key.0.key_value.0 } in
-    given (call_of c.args.call.now) part authenticated c.args.service_name.now c.args.service.now c.args.body.now c.in_ok-span.span c.in_ok-span.ensures c.in-Some.suite
-    (reply_key_of c.reply_key-under.result) (grant_of c.in_ok-grant.grant) c.in_ok-reply.reply.items
-    (sym c.in-Some.is ∙ c.first_granted.ensures ∙ (λ i. first_granted (c.without_des3-without.ensures i) (c.as_slice.ensures i)))
-    (sym
-    (c.subkey_of.ensures session ∙ ap (λ o. option_map (under session) o) c.in-Some-subkey_of.is
-    ∙ ap Some (sym (c.reply_key-under.ensures ∙ ap (λ k. under k c.in-Some-subkey_of.subkey) c.requires.key))))
-    c.in_ok-grant.ensures c.in_ok-reply.ensures
+    let session : KeyRecord = record { suite = authenticated.suite; bytes = part.key.0.key_value.0 } in (
+      given (call_of c.args.call.now) part authenticated c.args.service_name.now c.args.service.now c.args.body.now c.in_ok-span.span c.in_ok-span.ensures c.in-Some.suite
+          (reply_key_of c.reply_key-under.result) (grant_of c.in_ok-grant.grant) c.in_ok-made.made.reply.items
+          (sym c.in-Some.is ∙ c.first_granted.ensures ∙ (λ i. first_granted (c.without_des3-without.ensures i) (c.as_slice.ensures i)))
+          (sym
+          (c.subkey_of.ensures session ∙ ap (λ o. option_map (under session) o) c.in-Some-subkey_of.is
+          ∙ ap Some (sym (c.reply_key-under.ensures ∙ ap (λ k. under k c.in-Some-subkey_of.subkey) c.requires.key))))
+          c.in_ok-grant.ensures c.in_ok-made.ensures.reply,
+      c.in_ok-made.ensures.ticket,
+    )

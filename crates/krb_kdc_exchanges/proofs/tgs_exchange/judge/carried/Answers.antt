@@ -1,5 +1,5 @@
 use Rattle.std.proofs.Common.{◌≡◌, Some, refl, sym, inl, inr}
-use Rattle.krb_tickets.specs.Padata.{first_of}
+use Rattle.krb_messages.specs.Padata.{first_of}
 use Rattle.krb_kdc_exchanges.proofs.tgs_exchange.judge.carried.Goals as goal
 
 pub returns-in_default-2 : goal.returns-in_default-2

@@ -3,7 +3,7 @@ use Rattle.std.proofs.lemmas.Result.{err_from_is_err_and}
 use Rattle.decision_tables.specs.Tables.{and_then}
 use Rattle.krb_messages.specs.Refusals.{IsJudged}
 use Rattle.krb_kdc_exchanges.specs.Call.{call_of}
-use Rattle.krb_kdc_exchanges.specs.Requests.{padata_in}
+use Rattle.krb_messages.specs.Padata.{padata_in}
 use Rattle.krb_kdc_exchanges.proofs.Parts.{grant_passed, grant_refused}
 use Rattle.krb_kdc_exchanges.specs.TgsTable.{carried, of_carried, to_us}
 use Rattle.krb_kdc_exchanges.proofs.tgs_exchange.whole.judge_tgs.Goals as goal

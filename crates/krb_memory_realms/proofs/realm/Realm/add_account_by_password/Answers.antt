@@ -1,4 +1,4 @@
-use Rattle.krb_accounts.specs.Names.{parts}
+use Rattle.krb_realm_accounts.specs.Names.{parts}
 use Rattle.krb_memory_realms.proofs.Keyed.{inserted_realm}
 use Rattle.krb_memory_realms.proofs.realm.Realm.add_account_by_password.Goals as goal
 

@@ -1,5 +1,5 @@
 use Rattle.std.proofs.Common.{Ok, Err, refl}
-use Rattle.krb_accounts.specs.Accounts.{look_in}
+use Rattle.krb_realm_accounts.specs.Accounts.{look_in}
 use Rattle.krb_kdc_exchanges.specs.Replies.{Replies}
 use Rattle.pkinit_validation.specs.PkinitRows.{pkinit_rows}
 use Rattle.krb_memory_realms.specs.Realm.{call_to}

@@ -1,5 +1,5 @@
 use Rattle.std.proofs.Common.{subst}
-use Rattle.krb_accounts.specs.Accounts.{look_in}
+use Rattle.krb_realm_accounts.specs.Accounts.{look_in}
 use Rattle.krb_kdc_exchanges.specs.Calls.{AreKeyed}
 use Rattle.krb_memory_realms.specs.Realm.{RealmState}
 use Rattle.krb_memory_realms.proofs.realm.Realm.are_keyed.Goals as goal

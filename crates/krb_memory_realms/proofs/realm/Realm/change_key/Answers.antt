@@ -1,4 +1,4 @@
-use Rattle.krb_accounts.specs.Names.{parts}
+use Rattle.krb_realm_accounts.specs.Names.{parts}
 use Rattle.krb_memory_realms.proofs.Keyed.{changed_keyed, inserted_realm, kept_realm}
 use Rattle.krb_memory_realms.proofs.realm.Realm.change_key.Goals as goal
 

@@ -1,5 +1,5 @@
 use Rattle.std.proofs.Common.{sym, ◌∙◌}
-use Rattle.krb_accounts.specs.Names.{parts}
+use Rattle.krb_realm_accounts.specs.Names.{parts}
 use Rattle.krb_memory_realms.proofs.Keyed.{kept_realm, removed_realm}
 use Rattle.krb_memory_realms.proofs.realm.Realm.remove_account.Goals as goal
 

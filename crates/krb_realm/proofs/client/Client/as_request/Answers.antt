@@ -1,5 +1,5 @@
 use Rattle.std.proofs.Common.{subst, IfErr, IfOk, ℕ, List, ◌≡◌}
-use Rattle.krb_accounts.specs.Names.{parts}
+use Rattle.krb_realm_accounts.specs.Names.{parts}
 use Rattle.krb_client.specs.AsRequest.{AsksAs, IsUnasked}
 use Rattle.krb_realm.proofs.ClientMeans.{same_means}
 use Rattle.krb_realm.proofs.client.Client.as_request.Goals as goal

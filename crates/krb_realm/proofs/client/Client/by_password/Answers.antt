@@ -1,4 +1,4 @@
-use Rattle.krb_accounts.specs.Names.{parts}
+use Rattle.krb_realm_accounts.specs.Names.{parts}
 use Rattle.krb_realm.proofs.MadeClients.{of_suite}
 use Rattle.krb_realm.proofs.client.Client.by_password.Goals as goal
 

@@ -1,6 +1,6 @@
 use Rattle.std.proofs.Common.{◌∷◌, ap, ◌∙◌, arith}
 use Rattle.std.proofs.lemmas.List.{take_all}
-use Rattle.krb_accounts.specs.Packed.{packed}
+use Rattle.krb_realm_accounts.specs.Packed.{packed}
 use Rattle.krb_service.proofs.Packing.{is_packed, names_of}
 use Rattle.krb_service.proofs.pair.Pair.new.Goals as goal
 

@@ -1,5 +1,5 @@
 use Rattle.std.proofs.Common.{◌≡◌, ◌∷◌, take}
-use Rattle.krb_accounts.specs.Packed.{packed}
+use Rattle.krb_realm_accounts.specs.Packed.{packed}
 use Rattle.krb_service.proofs.pair.Pair.new.Given as goal
 
 abbrev pub invariant-loop-component : goal.invariant-loop-component

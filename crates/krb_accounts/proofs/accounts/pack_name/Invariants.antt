@@ -1,9 +1,0 @@
-use Rattle.std.proofs.Common.{◌≡◌, drop, take}
-use Rattle.arrayvec.specs.ArrayVec.{array_vec_len}
-use Rattle.krb_accounts.specs.Packed.{fit_behind, fit_in, packed}
-use Rattle.krb_accounts.proofs.accounts.pack_name.Given as goal
-
--- the block of the components so far, and what is left to fit
-abbrev pub invariant-loop-component : goal.invariant-loop-component
-invariant-loop-component g l =
-    (l.block.items ≡ packed (take l.component-index l.name)) × (fit_in g.row.N l.name ≡ fit_behind g.row.N (array_vec_len l.block) (drop l.component-index l.name))

@@ -1,0 +1,173 @@
+//! The commands that print accounts of a text.
+
+use crate::accounts::refusal_of;
+use crate::arguments::{expected, name_of};
+use crate::texts::{account_among, lines_of};
+use krb_account_texts::{AccountLine, EditRefusal, Line, Pattern, RealmLine, salt_text};
+use krb_commands::{Stop, failed, printable_of};
+use krb_messages::data_types::PrincipalName;
+use krb_realm_accounts::Account;
+use krb_settings::suite_name;
+use std::alloc::{AllocError, Global};
+use std::fmt::Display;
+use std::io::IsTerminal;
+
+/// What is above the accounts at a terminal. What isn't one gets no header, so that programs read lines of accounts alone.
+const HEADER: &str = "name\tsuite\tkvno\tkey\n";
+
+/// `list TEXT [PATTERN]`: prints the realm, and whether it answers logins by certificate, and each account's name, suite, kvno, whether its
+/// key is of a password, and whether it is disabled. With a pattern, it prints the accounts whose names it matches, and no realm.
+pub(crate) fn list(rt: &HostRuntime, arguments: &[String]) -> Result<(), Stop> {
+    match arguments {
+        [path] => print_listed(rt, path.as_str(), None),
+        [path, pattern] => {
+            let marks = pattern.as_bytes();
+            print_listed(rt, path.as_str(), Some(Pattern { marks }))
+        }
+        _ => Err(expected(rt.alloc(), "list TEXT [PATTERN]")),
+    }
+}
+
+fn print_listed(rt: &HostRuntime, path: &str, pattern: Option<Pattern<'_>>) -> Result<(), Stop> {
+    let text = listed(rt, path, pattern)?;
+    print_text(rt, text)
+}
+
+fn print_text<D: Display + Drop>(rt: &HostRuntime, text: D) -> Result<(), Stop> {
+    match print!(rt; "{text}") {
+        Ok(()) => Ok(()),
+        Err(_) => Err(failed(rt.alloc(), "standard output can't be written")),
+    }
+}
+
+fn listed(rt: &HostRuntime, path: &str, pattern: Option<Pattern<'_>>) -> Result<String, Stop> {
+    let lines = lines_of(rt, path)?;
+    let mut listing = Listing {
+        alloc: rt.alloc(),
+        has_header: !rt.stdout().is_terminal(),
+        pattern,
+        text: String::new(rt.alloc()),
+    };
+    for line in &lines {
+        listing.put(line)?;
+    }
+    Ok(listing.text)
+}
+
+// What is listed so far.
+#[derive(Drop)]
+struct Listing<'a> {
+    alloc: Global,
+    // Whether a header is there, or none is wanted.
+    has_header: bool,
+    pattern: Option<Pattern<'a>>,
+    text: String,
+}
+
+impl Listing<'_> {
+    fn put(&mut self, line: &Line) -> Result<(), AllocError> {
+        match line {
+            Line::Comment(_) => Ok(()),
+            Line::Realm(realm) => self.put_realm(realm),
+            Line::Account(own) => self.put_account(own),
+        }
+    }
+
+    fn put_realm(&mut self, realm: &RealmLine) -> Result<(), AllocError> {
+        if self.pattern.is_some() {
+            return Ok(());
+        }
+        let text = realm_listed(self.alloc, realm)?;
+        self.text.push_str(text.as_str())
+    }
+
+    fn put_account(&mut self, own: &AccountLine) -> Result<(), AllocError> {
+        let name = &own.name;
+        let name = format!(in self.alloc; "{name}")?;
+        if !self.is_listed(name.as_str())? {
+            return Ok(());
+        }
+        if !self.has_header {
+            self.has_header = true;
+            self.text.push_str(HEADER)?;
+        }
+        let text = account_listed(self.alloc, own)?;
+        self.text.push_str(text.as_str())
+    }
+
+    fn is_listed(&self, name: &str) -> Result<bool, AllocError> {
+        match self.pattern {
+            Some(pattern) => pattern.matches(self.alloc, name.as_bytes()),
+            None => Ok(true),
+        }
+    }
+}
+
+fn realm_listed(alloc: Global, realm: &RealmLine) -> Result<String, AllocError> {
+    let name = &realm.name;
+    let skew = realm.settings.skew();
+    let lifetime = realm.settings.lifetime();
+    let policy = if realm.settings.policy().limits_des3 {
+        "\tlimits-des3"
+    } else {
+        ""
+    };
+    let further = if realm.pkinit.is_some() {
+        "\tpkinit"
+    } else {
+        ""
+    };
+    format!(in alloc; "realm\t{name}\t{skew}\t{lifetime}{policy}{further}\n")
+}
+
+fn account_listed(alloc: Global, own: &AccountLine) -> Result<String, AllocError> {
+    let name = printable_of(alloc, &own.name)?;
+    let suite = suite_name(own.account.suite());
+    let kvno = own.account.kvno();
+    let kind = kind_of(&own.account);
+    let further = if own.is_disabled { "\tdisabled" } else { "" };
+    format!(in alloc; "{name}\t{suite}\t{kvno}\t{kind}{further}\n")
+}
+
+// Whether an account's key was made of a password: one that has a salt was.
+fn kind_of(account: &Account) -> &'static str {
+    if account.salt().is_some() {
+        "password"
+    } else {
+        "key"
+    }
+}
+
+/// `show TEXT NAME`: prints what the text says of one account, but not its key.
+pub(crate) fn show(rt: &HostRuntime, arguments: &[String]) -> Result<(), Stop> {
+    let [path, name] = arguments else {
+        return Err(expected(rt.alloc(), "show TEXT NAME"));
+    };
+    let name = name_of(rt.alloc(), name.as_str())?;
+    let text = shown(rt, path.as_str(), &name)?;
+    print_text(rt, text)
+}
+
+fn shown(rt: &HostRuntime, path: &str, name: &PrincipalName) -> Result<String, Stop> {
+    let lines = lines_of(rt, path)?;
+    match account_among(&lines, name.name_string.0.as_slice()) {
+        Some(own) => Ok(account_shown(rt.alloc(), own)?),
+        None => Err(refusal_of(rt.alloc(), name, EditRefusal::Unknown)),
+    }
+}
+
+fn account_shown(alloc: Global, own: &AccountLine) -> Result<String, AllocError> {
+    let name = printable_of(alloc, &own.name)?;
+    let suite = suite_name(own.account.suite());
+    let kvno = own.account.kvno();
+    let kind = kind_of(&own.account);
+    let salt = salt_text(alloc, own.account.salt())?;
+    let state = if own.is_disabled {
+        "disabled"
+    } else {
+        "enabled"
+    };
+    format!(in alloc;
+        "name\t{name}\nsuite\t{suite}\nkvno\t{kvno}\nkey\t{kind}\nsalt\t{salt}\nstate\t{state}\n"
+    )
+}

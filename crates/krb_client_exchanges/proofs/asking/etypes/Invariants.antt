@@ -1,7 +1,0 @@
-use Rattle.std.proofs.Common.{◌≡◌, take}
-use Rattle.krb_client_exchanges.specs.FirstRequests.{etypes}
-use Rattle.krb_client_exchanges.proofs.asking.etypes.Given as goal
-
--- the etypes so far
-abbrev pub invariant-loop-suite : goal.invariant-loop-suite
-invariant-loop-suite l = l.list.items ≡ etypes (take l.suite-index l.suites)

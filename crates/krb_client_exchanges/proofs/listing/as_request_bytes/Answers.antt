@@ -1,4 +1,0 @@
-use Rattle.krb_client_exchanges.proofs.listing.as_request_bytes.Goals as goal
-
-pub returns : goal.returns
-returns c = rw c.in_ok-request.ensures at c.in_ok-bytes.ensures

@@ -1,0 +1,54 @@
+use Rattle.std.proofs.Common.{inl, sym, ◌∙◌}
+use Rattle.krb_kdc.specs.Calls.{call_with}
+use Rattle.krb_kdc.specs.Sources.{RepliesBy}
+use Rattle.krb_kdc.proofs.Answered.{by_given, by_tgs, unread}
+use Rattle.krb_kdc.proofs.Refused.{fails_more, no_answer, refused}
+use Rattle.krb_kdc.proofs.answer.answer_observed.Goals as goal
+
+pub returns-then-not-begins_request-clause-answer : goal.returns-then-not-begins_request-clause-answer
+returns-then-not-begins_request-clause-answer g c = λ all known.
+    let none = c.begins_request.ensures.none c.if-not-begins_request.true in
+    unread g.S.Given.Pkinit.rows (g.S.PkinitSource.gives c.args.source.now) (call_with c.args.call.now all) c.args.message.now none.0 none.1
+
+pub returns-then-not-begins_request-clause-refusal : goal.returns-then-not-begins_request-clause-refusal
+returns-then-not-begins_request-clause-refusal g c = c.begins_request.ensures.none c.if-not-begins_request.true
+
+pub returns-in-Some-clause-answer : goal.returns-in-Some-clause-answer
+returns-in-Some-clause-answer g c = λ all known.
+    by_given g.S.Given.Pkinit.rows (g.S.PkinitSource.gives c.args.source.now) (call_with c.args.call.now all) c.args.message.now c.in-Some.request c.in_ok-reply.reply.items
+    (rw c.in-Some.is at c.in_ok-request.ensures) (c.in_ok-reply.ensures.answer all known)
+
+pub returns-in-Some-2-clause-answer : goal.returns-in-Some-2-clause-answer
+returns-in-Some-2-clause-answer g c = λ all known.
+    by_tgs g.S.Given.Pkinit.rows (g.S.PkinitSource.gives c.args.source.now) (call_with c.args.call.now all) c.args.message.now c.in-Some-2.request c.in_ok-reply-2.reply.items
+    (rw c.in_default.is at c.in_ok-request.ensures) (rw c.in-Some-2.is at c.in_ok-request-2.ensures) (c.in_ok-reply-2.ensures.answer all known)
+
+pub returns-clause-answer : goal.returns-clause-answer
+returns-clause-answer g c = λ all known.
+    unread g.S.Given.Pkinit.rows (g.S.PkinitSource.gives c.args.source.now) (call_with c.args.call.now all) c.args.message.now (rw c.in_default.is at c.in_ok-request.ensures)
+    (rw c.in_default-2.is at c.in_ok-request-2.ensures)
+
+pub returns-clause-refusal : goal.returns-clause-refusal
+returns-clause-refusal g c = (rw c.in_default.is at c.in_ok-request.ensures, rw c.in_default-2.is at c.in_ok-request-2.ensures)
+
+pub returns-in_err-reply-clause-answer : goal.returns-in_err-reply-clause-answer
+returns-in_err-reply-clause-answer g c = λ all known. no_answer (RepliesBy g.S.Given.Pkinit.rows (g.S.PkinitSource.gives c.args.source.now) (call_with c.args.call.now all) c.args.message.now) _ c.from_residual-in_err-reply.result c.from_residual-in_err-reply.ensures.1
+
+pub returns-in_err-reply-clause-refusal : goal.returns-in_err-reply-clause-refusal
+returns-in_err-reply-clause-refusal g c =
+    refused _ c.args.message.now _ c.from_residual-in_err-reply.result c.from_residual-in_err-reply.ensures.1
+    (sym c.begins_request.ensures.begins ∙ c.if-not-begins_request.false) c.in_err-reply.ensures.fault
+
+pub returns-in_err-reply-2-clause-answer : goal.returns-in_err-reply-2-clause-answer
+returns-in_err-reply-2-clause-answer g c = λ all known. no_answer (RepliesBy g.S.Given.Pkinit.rows (g.S.PkinitSource.gives c.args.source.now) (call_with c.args.call.now all) c.args.message.now) _ c.from_residual-in_err-reply-2.result c.from_residual-in_err-reply-2.ensures.1
+
+pub returns-in_err-reply-2-clause-refusal : goal.returns-in_err-reply-2-clause-refusal
+returns-in_err-reply-2-clause-refusal g c =
+    refused _ c.args.message.now _ c.from_residual-in_err-reply-2.result c.from_residual-in_err-reply-2.ensures.1
+    (sym c.begins_request.ensures.begins ∙ c.if-not-begins_request.false) (fails_more inl _ c.in_err-reply-2.ensures.fault)
+
+pub returns-in-Some-clause-told : goal.returns-in-Some-clause-told
+returns-in-Some-clause-told g c = c.in_ok-reply.ensures.told c.args.message.now (rw c.in-Some.is at c.in_ok-request.ensures)
+
+pub returns-in-Some-2-clause-told : goal.returns-in-Some-2-clause-told
+returns-in-Some-2-clause-told g c = c.in_ok-reply-2.ensures.told c.args.message.now (rw c.in-Some-2.is at c.in_ok-request-2.ensures)

@@ -1,0 +1,50 @@
+-- What is granted by an older ticket, in the order of its table.
+use Rattle.std.proofs.Common.{◌≡◌, ℕ, List, Option, None, Some, Result, Ok, Err, refl, subst, inl}
+use Rattle.asn1_leaves.specs.GeneralizedTime.{seconds_of}
+use Rattle.krb_crypto.specs.declared.suite.CipherSuite.{CipherSuite}
+use Rattle.krb_realm_accounts.specs.Account.{AccountRecord}
+use Rattle.krb_messages.specs.declared.data_types.enc_ticket_part.EncTicketPartInner.{EncTicketPartInner}
+use Rattle.krb_messages.specs.declared.data_types.principal_name.PrincipalName.{PrincipalName}
+use Rattle.krb_messages.specs.declared.messages.kdc_req_body.KdcReqBody.{KdcReqBody}
+use Rattle.decision_tables.specs.Tables.{Table, need}
+use Rattle.krb_tickets.specs.Grant.{GrantRecord}
+use Rattle.krb_tickets.specs.ReplyKeys.{ReplyKeyRecord}
+use Rattle.krb_tickets.specs.Granted.{IsTicketReply}
+use Rattle.krb_ap_requests.specs.declared.presented.Authenticated.{Authenticated}
+use Rattle.krb_kdc_exchanges.specs.Call.{CallRecord}
+use Rattle.krb_kdc_exchanges.specs.Granting.{replied}
+use Rattle.krb_kdc_exchanges.specs.Requests.{lasting}
+use Rattle.krb_kdc_exchanges.specs.declared.span.Span.{Span}
+use Rattle.krb_kdc_exchanges.specs.TgsTable.{first_granted, further, further_grant, reply_key, subkey_in, without_des3}
+
+module _ (call : CallRecord) (part : EncTicketPartInner) (authenticated : Authenticated) (service_name : PrincipalName) (service : AccountRecord) (body : KdcReqBody) (span : Span)
+    (lasts : (lasting call.settings.lifetime call.moment (Some (seconds_of part.endtime.0.0)) body).gives (Ok span)) where
+  abbrev first : Option CipherSuite
+  first = first_granted (without_des3 call part service) body.etype.0
+
+  abbrev pub key : Option ReplyKeyRecord
+  key = reply_key authenticated.suite part.key.0.key_value.0 (subkey_in authenticated.authenticator)
+
+  abbrev to_seal : CipherSuite → ReplyKeyRecord → Table (Result (List ℕ) ℕ)
+  to_seal suite under = replied (further_grant call part service_name suite body span) under service call.words
+
+  abbrev to_key : CipherSuite → Table (Result (List ℕ) ℕ)
+  to_key suite = need key 31 (to_seal suite)
+
+  abbrev pub answers : Result (List ℕ) ℕ → Type 0
+  answers r = (further call part authenticated service_name service body).gives r
+
+  -- no suite of the client's is known
+  pub no_suite : None ≡ first → answers (Err 14)
+  no_suite none = inl (span, lasts, subst (λ o. (need o 14 to_key).gives (Err 14)) none refl)
+
+  -- the subkey is of no suite
+  pub no_key : (suite : CipherSuite) → Some suite ≡ first → None ≡ key → answers (Err 31)
+  no_key suite some none =
+      inl (span, lasts, subst (λ o. (need o 14 to_key).gives (Err 31)) some (subst (λ k. (need k 31 (to_seal suite)).gives (Err 31)) none refl))
+
+  pub given : (suite : CipherSuite) (under : ReplyKeyRecord) (ticket : GrantRecord) (bytes : List ℕ) → Some suite ≡ first → Some under ≡ key
+      → ticket ≡ further_grant call part service_name suite body span → IsTicketReply ticket under service call.words bytes → answers (Ok bytes)
+  given suite under ticket bytes some keyed same reply =
+      let own = subst (λ g. IsTicketReply g under service call.words bytes) same reply in
+      inl (span, lasts, subst (λ o. (need o 14 to_key).gives (Ok bytes)) some (subst (λ k. (need k 31 (to_seal suite)).gives (Ok bytes)) keyed (bytes, own, refl)))

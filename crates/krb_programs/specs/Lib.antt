@@ -1,2 +1,0 @@
-pub mod Devices
-pub mod Moments

@@ -1,0 +1,3 @@
+mod Blocks
+mod Parts
+pub mod Packing

@@ -1,0 +1,82 @@
+-- A reply by what is given for the request that was read is a reply of the file's realm.
+use Rattle.std.proofs.Common.{◌≡◌, ◌⊎◌, ℕ, List, None, Option, Some, Result, Ok, Err, inl, inr, sym, subst}
+use Rattle.std.specs.Prelude.{Vec, MatchResult}
+use Rattle.std.specs.Global.{Global}
+use Rattle.krb_realm_accounts.specs.Accounts.{Look}
+use Rattle.krb_kdc.specs.Answers.{IsAnswerBy}
+use Rattle.krb_kdc.specs.Faults.{MayFail}
+use Rattle.krb_kdc.specs.Sources.{RepliesBy}
+use Rattle.krb_kdc.specs.declared.fault.LookupFault.{LookupFault}
+use Rattle.krb_kdc.specs.declared.fault.LookupRefusal.{LookupRefusal}
+use Rattle.krb_kdc.specs.declared.fault.LookupRefusal.TheVariants.{Unreadable, Fault}
+use Rattle.krb_kdc_exchanges.specs.Call.{CallRecord}
+use Rattle.krb_kdc_exchanges.specs.PkinitCalls.{AgreedRecord, PkinitCallRecord}
+use Rattle.krb_kdc_exchanges.specs.Replies.{Replies}
+use Rattle.krb_messages.specs.Refusals.{IsJudged}
+use Rattle.krb_messages.specs.declared.messages.kdc_req.KdcReq.{KdcReq}
+use Rattle.krb_messages.specs.declared.refusal.Refusal.{Refusal}
+use Rattle.pkinit_validation.specs.PkinitRows.{pkinit_rows}
+use Rattle.pkinit_validation.specs.Trust.{TrustRecord}
+use Rattle.rsa_keys.specs.Functions.{rsa_functions}
+use Rattle.rsa_keys.specs.declared.rsa_keys.RsaKeys.{RsaKeys}
+use Rattle.krb_realm_files.specs.Faults.{lookup_fault_of}
+use Rattle.krb_realm_files.specs.Lacks.{AreUnusable, IsWithoutBy}
+use Rattle.krb_realm_files.specs.Means.{IsUnusable, rows_of, trust_in}
+use Rattle.krb_realm_files.specs.RefusedPkinit.{refused_rows}
+use Rattle.krb_realm_files.specs.Replies.{ReplyBy, ReplyByRealm}
+use Rattle.krb_realm_files.specs.Sources.{IsGiven, IsGivenBy, file_rows}
+use Rattle.krb_realm_files.specs.declared.file_pkinit.FilePkinit.{FilePkinit}
+use Rattle.krb_realm_files.specs.declared.file_pkinit.FilePkinit.TheVariants as file
+use Rattle.krb_realm_files.specs.declared.means.PkinitMeans.{PkinitMeans}
+use Rattle.krb_realm_files.specs.declared.pkinit_fault.PkinitFault.{PkinitFault}
+use Rattle.krb_realm_files.specs.declared.pkinit_fault.PkinitFault.TheVariants as pkinit
+use Rattle.krb_realm_files.specs.declared.realm_parameters.RealmParameters.{RealmParameters}
+use Rattle.krb_realm_files.proofs.Unasked.{unasked}
+
+-- The fault of octets that are refused.
+pub unusable : (octets : List ℕ) (fault : PkinitFault) → IsUnusable octets fault → MayFail (AreUnusable octets) (lookup_fault_of fault)
+unusable octets pkinit.Memory is = tt
+unusable octets pkinit.NotThree is = (pkinit.NotThree, λ e. cc (e), is)
+unusable octets pkinit.Certificate is = (pkinit.Certificate, λ e. cc (e), is)
+unusable octets pkinit.Key is = (pkinit.Key, λ e. cc (e), is)
+unusable octets (pkinit.Refused why) is = (pkinit.Refused why, λ e. cc (e), is)
+unusable octets pkinit.OtherKey is = (pkinit.OtherKey, λ e. cc (e), is)
+unusable octets pkinit.Anchor is = (pkinit.Anchor, λ e. cc (e), is)
+
+-- What is given by a realm's octets.
+pub for_octets : (own : Option (List ℕ)) (octets bytes : List ℕ) (request : KdcReq) (result : Result FilePkinit LookupFault) → own ≡ Some octets → bytes ≡ octets
+    → MatchResult result (IsGivenBy bytes request) (MayFail (AreUnusable bytes)) → MatchResult result (IsGiven own request) (MayFail (IsWithoutBy own))
+for_octets own octets bytes request result has same is =
+    subst (λ (p : Option (List ℕ)). MatchResult result (IsGiven p request) (MayFail (IsWithoutBy p))) (sym has)
+    (subst (λ (o : List ℕ). MatchResult result (IsGivenBy o request) (MayFail (AreUnusable o))) same is)
+
+-- What the means judge.
+pub by_means : (means : PkinitMeans) (trust : TrustRecord) (keys : RsaKeys) (call : PkinitCallRecord) (padata : List ℕ) (result : Result AgreedRecord Refusal)
+    → trust ≡ trust_in means → keys ≡ means.keys → IsJudged ((pkinit_rows trust (rsa_functions keys.group keys.own)).judges call padata).gives result
+    → IsJudged ((rows_of means).judges call padata).gives result
+by_means means trust keys call padata result same_trust same_keys is =
+    subst (λ (k : RsaKeys). IsJudged ((pkinit_rows (trust_in means) (rsa_functions k.group k.own)).judges call padata).gives result) same_keys
+    (subst (λ (t : TrustRecord). IsJudged ((pkinit_rows t (rsa_functions keys.group keys.own)).judges call padata).gives result) same_trust is)
+
+module _ (call : CallRecord) (message : List ℕ) where
+  by_given : (own : Option (List ℕ)) (reply : Option (List ℕ)) → RepliesBy file_rows (IsGiven own) call message reply → ReplyBy own call message reply
+  unfolding Replies
+  by_given None reply (inl (request, read, (given, is, x))) = subst (λ (p : FilePkinit). Replies call (file_rows p) message reply) is x
+  by_given None reply (inr (none, further)) = inr (none, further)
+  by_given (Some octets) reply (inl (request, read, (file.Refused own, is, x))) =
+      inl (λ means. unasked call (refused_rows own.is_offered) (rows_of means) message request reply is.0 read is.1 x)
+  by_given (Some octets) reply (inl (request, read, (file.Means means, are, x))) = inr (means, are, x)
+  by_given (Some octets) reply (inr (none, further)) = inl (λ means. inr (none, further))
+
+  pub answered_by : (own : Option (List ℕ)) (result : Result (Vec ℕ Global) LookupRefusal) → IsAnswerBy (RepliesBy file_rows (IsGiven own) call message) result
+      → IsAnswerBy (ReplyBy own call message) result
+  answered_by own (Ok reply) is = by_given own (Some reply.items) is
+  answered_by own (Err Unreadable) is = by_given own None is
+  answered_by own (Err (Fault fault)) is = tt
+
+-- The answer of a realm.
+pub by_realm : (realm : RealmParameters) (all : Look) (message : List ℕ) (moment : ℕ) (words : List ℕ) (result : Result (Vec ℕ Global) LookupRefusal)
+    → IsAnswerBy (RepliesBy file_rows (IsGiven realm.pkinit) (record { realm = realm.name; settings = realm.settings; look = all; moment = moment; words = words }) message) result
+    → IsAnswerBy (ReplyByRealm realm all message moment words) result
+by_realm realm all message moment words =
+    answered_by (record { realm = realm.name; settings = realm.settings; look = all; moment = moment; words = words }) message realm.pkinit
