@@ -40,8 +40,9 @@ judged c is_token token =
     -- The flag AcceptorSubkey is set if and only if the context's key is the acceptor's subkey (RFC 4121, section 4.2.2). Test: `unwrap
     -- OtherKey`, `verify_mic OtherKey`.
     else if not (beq (is_set (slice_index token 2) ACCEPTOR_SUBKEY) c.acceptor_subkey) then Err OtherKey
-    -- The sequence number is the least that is taken, or a higher one (RFC 4121, section 4.2.1). Without sequencing, numbers may be left
-    -- out. Test: `unwrap OldNumber`, `verify_mic OldNumber`, `Both directions of one context, with numbers left out.`.
+    -- The sequence number is the least that is taken, or a higher one: a rule of this stack, since RFC 4121, section 4.2.1, binds the sender
+    -- alone. Without sequencing, numbers may be left out. Test: `unwrap OldNumber`, `verify_mic OldNumber`, `Both directions of one context,
+    -- with numbers left out.`.
     else if nat_lt (be64_at 8 token) c.taking then Err OldNumber
     -- Where the initiator asked for sequencing, the sequence number is the next one (RFC 2743, section 1.2.3, GSS_S_GAP_TOKEN). Test:
     -- `unwrap Gap`, `verify_mic Gap` of `first_tokens.txt`.
