@@ -17,8 +17,8 @@ pub record ClientRecord : Type 0 where
   pub suite : CipherSuite
 
 -- the client of this name, or why there is none
-abbrev pub client_of : Bytes → List Bytes → CipherSuite → Result ClientRecord AskRefusal
-client_of realm components suite =
+abbrev pub client_named : Bytes → List Bytes → CipherSuite → Result ClientRecord AskRefusal
+client_named realm components suite =
     if not (is_realm_name realm && are_components components) then Err BadName
     else Ok (record { realm = realm; components = components; suite = suite })
 

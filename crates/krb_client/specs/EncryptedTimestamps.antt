@@ -18,7 +18,7 @@ use Rattle.krb_messages.specs.declared.data_types.pa_enc_timestamp.PaEncTsEnc.{P
 use Rattle.decision_tables.specs.Tables.{done}
 use Rattle.krb_client.specs.Means.{MeansRecord}
 use Rattle.krb_client.specs.Messages.{encrypted_bytes, timestamp_bytes}
-use Rattle.krb_client.specs.Requests.{pa_data_of}
+use Rattle.krb_tickets.specs.MethodData.{pa_data_of}
 use Rattle.krb_tickets.specs.Sealing.{Seals, sole_seals}
 
 -- the client's time, its microseconds always with it

@@ -53,10 +53,6 @@ listing_body client named suites service till nonce = record {
 abbrev pub request_body : ClientRecord → Bool → List Bytes → GeneralizedTime → ℕ → KdcReqBody
 request_body client named service till nonce = listing_body client named (client.suite ∷ []) service till nonce
 
--- preauthentication data of a type (RFC 4120, section 7.5.2)
-abbrev pub pa_data_of : ℕ → Bytes → PaData
-pa_data_of kind value = record { padata_type = record { 0 = pos kind }; padata_data = record { 0 = value } }
-
 -- the request of a type, with one PA-DATA as its padata
 abbrev pub kdc_request_of : ℕ → PaData → KdcReqBody → KdcReq
 kdc_request_of kind pa_data body = record {

@@ -22,7 +22,8 @@ use Rattle.krb_client.specs.Authenticators.{IsApRequest, IsAuthenticatorOf, sole
 use Rattle.krb_client.specs.Client.{ClientRecord, CredentialRecord}
 use Rattle.krb_client.specs.Messages.{tgs_request_bytes}
 use Rattle.krb_messages.specs.Bodies.{body_bytes}
-use Rattle.krb_client.specs.Requests.{pa_data_of, nonce_of, listing_body, kdc_request_of}
+use Rattle.krb_client.specs.Requests.{nonce_of, listing_body, kdc_request_of}
+use Rattle.krb_tickets.specs.MethodData.{pa_data_of}
 
 -- the checksum of the session key's suite over a text (RFC 4120, section 7.5.1)
 abbrev pub checksum_over : CredentialRecord → Bytes → Checksum

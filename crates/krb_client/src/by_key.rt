@@ -2,13 +2,12 @@
 ghost use Rattle.std.specs.Prelude.{◌≡◌, length, IfOk};
 ghost use Rattle.krb_messages.specs.RandomBytes.{AreEnoughForRequest};
 ghost use Rattle.krb_client.specs.Messages.{encrypted_bytes, timestamp_bytes};
-ghost use Rattle.krb_client.specs.Requests.{pa_data_of};
+ghost use Rattle.krb_tickets.specs.MethodData.{pa_data_of};
 ghost use Rattle.krb_client.specs.EncryptedTimestamps.{IsSealedTime, IsPaEncTimestamp, timestamp_of};
 ghost use Rattle.krb_crypto.specs.Suites.{cipher_confounder_size};
 
 use crate::asked::AsAsked;
 use crate::client::Client;
-use crate::kdc_request::pa_data_of;
 use crate::means::Means;
 use crate::refusal::{AskRefusal, TakeRefusal};
 use krb_constants::key_usages;
@@ -17,7 +16,7 @@ use krb_crypto::Key;
 use krb_messages::data_types::{EncryptedData, PaData, PaEncTsEnc};
 use krb_messages::messages::{KdcRep, KdcReqBody};
 use krb_messages::random_bytes::TIMESTAMP_CONFOUNDER;
-use krb_tickets::{confounder_at, sealed_data};
+use krb_tickets::{confounder_at, pa_data, sealed_data};
 use krb_time::Moment;
 use picky_asn1::date::GeneralizedTime;
 use picky_asn1::wrapper::{GeneralizedTimeAsn1, IntegerAsn1};
@@ -115,5 +114,5 @@ fn timestamp_padata(alloc: Global, encrypted_timestamp: EncryptedData) -> Result
     ensures { IfOk result (λ padata. padata ≡ pa_data_of PA_ENC_TIMESTAMP (encrypted_bytes encrypted_timestamp)) }
 {
     let value = encoding_of(alloc, encrypted_timestamp)?;
-    pa_data_of(alloc, PA_ENC_TIMESTAMP, value)
+    pa_data(alloc, PA_ENC_TIMESTAMP, value)
 }

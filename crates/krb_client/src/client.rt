@@ -35,7 +35,7 @@ impl Model for Client {
 
 impl Client {
     ghost use Rattle.krb_client.specs.ByPassword.{client_by_password};
-    ghost use Rattle.krb_client.specs.Client.{client_of};
+    ghost use Rattle.krb_client.specs.Client.{client_named};
     ghost use Rattle.krb_client.specs.Refusals.{IsMemoryAside};
     ghost use Rattle.krb_client.specs.declared.refusal.AskRefusal.{AskRefusal};
 
@@ -48,10 +48,10 @@ impl Client {
         name: &[Vec<u8>],
         suite: CipherSuite,
     ) -> Result<Client, AskRefusal>
-        ensures made { IsMemoryAside result (client_of realm.now (parts name.now) suite) }
+        ensures made { IsMemoryAside result (client_named realm.now (parts name.now) suite) }
 
         // Running out of memory hides no other refusal.
-        ensures first { (refusal : AskRefusal) → client_of realm.now (parts name.now) suite ≡ Err refusal → result ≡ Err refusal }
+        ensures first { (refusal : AskRefusal) → client_named realm.now (parts name.now) suite ≡ Err refusal → result ≡ Err refusal }
     {
         if !is_realm_name(realm) {
             return Err(AskRefusal::BadName);

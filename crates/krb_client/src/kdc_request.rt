@@ -1,7 +1,7 @@
 //! Requests to a KDC: what those for a first ticket and for further ones have in common.
 ghost use Rattle.std.specs.Prelude.{◌≡◌, [], ◌∷◌, IfOk};
 ghost use Rattle.krb_messages.specs.RandomBytes.{AreEnoughForRequest};
-ghost use Rattle.krb_client.specs.Requests.{etypes, pa_data_of, name_where, no_options, nonce_of, listing_body, kdc_request_of};
+ghost use Rattle.krb_client.specs.Requests.{etypes, name_where, no_options, nonce_of, listing_body, kdc_request_of};
 
 use crate::client::Client;
 use crate::names::principal_name;
@@ -13,7 +13,6 @@ use krb_messages::random_bytes::NONCE;
 use picky_asn1::date::GeneralizedTime;
 use picky_asn1::wrapper::{
     Asn1SequenceOf, BitStringAsn1, GeneralStringAsn1, GeneralizedTimeAsn1, IntegerAsn1,
-    OctetStringAsn1,
 };
 use picky_asn1_der::{ExplicitContextTag, ExplicitContextTag1, Optional, both};
 use std::alloc::{AllocError, Global};
@@ -107,17 +106,6 @@ pub fn nonce_of(words: &[u8]) -> u32
     let mut octets = [0; 4];
     octets.copy_from_slice(&words[NONCE..NONCE + 4]);
     u32::from_be_bytes(octets) % NONCES
-}
-
-/// Preauthentication data of this type.
-pub(crate) fn pa_data_of(alloc: Global, kind: u32, value: Vec<u8>) -> Result<PaData, AllocError>
-    ensures { IfOk result (λ pa_data. pa_data ≡ pa_data_of kind value.items) }
-{
-    let kind = IntegerAsn1::from_u64(alloc, u64::from(kind))?;
-    Ok(PaData {
-        padata_type: ExplicitContextTag(kind),
-        padata_data: ExplicitContextTag(OctetStringAsn1::from(value)),
-    })
 }
 
 // The padata of one PA-DATA.

@@ -12,7 +12,7 @@ use crate::asked::TgsAsked;
 use crate::authenticator::ap_request;
 use crate::client::Client;
 use crate::credential::Credential;
-use crate::kdc_request::{kdc_request_of, nonce_of, pa_data_of};
+use crate::kdc_request::{kdc_request_of, nonce_of};
 use crate::refusal::AskRefusal;
 use crate::ticket_request::TicketRequest;
 use krb_constants::key_usages;
@@ -23,7 +23,7 @@ use krb_messages::data_types::Checksum;
 use krb_messages::messages::{KdcReq, KdcReqBody};
 use krb_messages::random_bytes::AUTHENTICATOR_CONFOUNDER;
 use krb_realm_accounts::{are_components, components_of};
-use krb_tickets::confounder_at;
+use krb_tickets::{confounder_at, pa_data};
 use krb_time::Moment;
 use picky_asn1::date::GeneralizedTime;
 use picky_asn1::wrapper::{GeneralStringAsn1, IntegerAsn1, OctetStringAsn1};
@@ -161,7 +161,7 @@ impl Client {
     ) -> Result<KdcReq, AllocError>
         ensures { IfOk result (λ made. made ≡ further_request self.now suites.now service.now till nonce request.items) }
     {
-        let pa_data = pa_data_of(alloc, PA_TGS_REQ, request);
+        let pa_data = pa_data(alloc, PA_TGS_REQ, request);
         let body = self.request_body(alloc, false, suites, service, till, nonce);
         let (pa_data, body) = both(pa_data, body)?;
         kdc_request_of(alloc, TGS_REQ_MSG_TYPE, pa_data, body)

@@ -61,7 +61,8 @@ use Rattle.krb_client.specs.Authenticators.{IsApRequest, authenticator_with, aut
 use Rattle.krb_client.specs.Client.{ClientRecord, CredentialRecord}
 use Rattle.krb_client.specs.Held.{principal_name}
 use Rattle.krb_client.specs.Messages.{authenticator_bytes, tgs_request_bytes}
-use Rattle.krb_client.specs.Requests.{pa_data_of, nonce_of, request_body}
+use Rattle.krb_client.specs.Requests.{nonce_of, request_body}
+use Rattle.krb_tickets.specs.MethodData.{pa_data_of}
 use Rattle.krb_client.specs.TgsRequest.{checksum_over, tgs_body_bytes, tgs_request_of}
 use Rattle.krb_service.specs.Service.{ServiceRecord}
 use Rattle.krb_client.specs.Means.{MeansRecord}

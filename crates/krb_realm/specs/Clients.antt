@@ -6,7 +6,7 @@ use Rattle.krb_crypto.specs.Sealing.{password_key_of}
 use Rattle.krb_crypto.specs.declared.suite.CipherSuite.{CipherSuite}
 use Rattle.krb_realm_accounts.specs.Names.{are_components, is_realm_name}
 use Rattle.krb_realm_accounts.specs.Passwords.{password_salt}
-use Rattle.krb_client.specs.Client.{ClientRecord, client_of}
+use Rattle.krb_client.specs.Client.{ClientRecord, client_named}
 use Rattle.krb_client.specs.Means.{MeansRecord}
 use Rattle.krb_client.specs.EncryptedTimestamps.{by_key}
 use Rattle.krb_client.specs.declared.refusal.AskRefusal.{AskRefusal}
@@ -50,12 +50,12 @@ client_by_password realm components suite password =
 
 -- the client with this certificate, which is one
 pub record IsClientByCertificate (realm : Bytes) (components : List Bytes) (suite : CipherSuite) (certificate : Bytes) (anchor : AnchorRecord) (client : ClientState) : Type 0 where
-  pub named : client_of realm components suite ≡ Ok client.client
+  pub named : client_named realm components suite ≡ Ok client.client
   pub certified : IsCertificateIf certificate true
   pub by : client.by ≡ ByCertificate certificate anchor
 
 -- why there is none: memory ran out, a name is none, or the certificate is none
 abbrev pub IsNoClient : Bytes → List Bytes → CipherSuite → Bytes → AskRefusal → Type 0
 IsNoClient realm components suite certificate refusal =
-    (refusal ≡ Memory) ⊎ ((client_of realm components suite ≡ Err refusal)
-    ⊎ ((refusal ≡ BadCertificate) × ((client : ClientRecord) × (client_of realm components suite ≡ Ok client)) × IsCertificateIf certificate false))
+    (refusal ≡ Memory) ⊎ ((client_named realm components suite ≡ Err refusal)
+    ⊎ ((refusal ≡ BadCertificate) × ((client : ClientRecord) × (client_named realm components suite ≡ Ok client)) × IsCertificateIf certificate false))

@@ -2,7 +2,7 @@
 ghost use Rattle.std.specs.Prelude.{◌≡◌, ◌↔◌, ◌⊎◌, ℕ, List, true, false, Ok, Err, IfErr, IfOk, MatchResult};
 ghost use Rattle.krb_messages.specs.RandomBytes.{AreEnoughForRequest};
 ghost use Rattle.krb_realm_accounts.specs.Names.{AreComponents, IsRealmName, are_components, parts};
-ghost use Rattle.krb_client.specs.Client.{client_of};
+ghost use Rattle.krb_client.specs.Client.{client_named};
 ghost use Rattle.krb_client.specs.Refusals.{IsMemoryAside, IsTaken};
 ghost use Rattle.krb_memory_realms.specs.Settings.{IsCertificateIf};
 ghost use Rattle.krb_realm.specs.Clients.{IsNoClient};
@@ -95,7 +95,7 @@ impl Client {
             (IsNoClient realm.now (parts name.now) suite certificate.now) }
 
         // Running out of memory hides no bad name.
-        ensures first { (refusal : AskRefusal) → client_of realm.now (parts name.now) suite ≡ Err refusal → result ≡ Err refusal }
+        ensures first { (refusal : AskRefusal) → client_named realm.now (parts name.now) suite ≡ Err refusal → result ≡ Err refusal }
     {
         match named_and_certified(alloc, realm, name, suite, certificate) {
             Ok((asking, certificate)) => Ok(Client {
@@ -294,9 +294,9 @@ fn named_and_certified(
     certificate: &[u8],
 ) -> Result<(krb_client::Client, Vec<u8>), AskRefusal>
     ensures made { MatchResult result
-        (λ r. (client_of realm.now (parts name.now) suite ≡ Ok r.0) × IsCertificateIf certificate.now true × (r.1.items ≡ certificate.now))
+        (λ r. (client_named realm.now (parts name.now) suite ≡ Ok r.0) × IsCertificateIf certificate.now true × (r.1.items ≡ certificate.now))
         (IsNoClient realm.now (parts name.now) suite certificate.now) }
-    ensures first { (refusal : AskRefusal) → client_of realm.now (parts name.now) suite ≡ Err refusal → result ≡ Err refusal }
+    ensures first { (refusal : AskRefusal) → client_named realm.now (parts name.now) suite ≡ Err refusal → result ≡ Err refusal }
 {
     let asking = krb_client::Client::new(alloc, realm, name, suite)?;
     match certified(alloc, certificate) {

@@ -15,7 +15,7 @@ use Rattle.krb_messages.specs.Padata.{first_of}
 use Rattle.krb_client.specs.Asked.{AsAskedRecord, agreement_part}
 use Rattle.krb_client.specs.Client.{ClientRecord}
 use Rattle.krb_client.specs.Means.{MeansRecord}
-use Rattle.krb_client.specs.Requests.{pa_data_of}
+use Rattle.krb_tickets.specs.MethodData.{pa_data_of}
 use Rattle.krb_client.specs.declared.refusal.TakeRefusal.{TakeRefusal}
 use Rattle.krb_client.specs.declared.refusal.TakeRefusal.TheVariants.{NotTrusted}
 use Rattle.decision_tables.specs.Tables.{Table, and_then_told, done, need}

@@ -3,7 +3,7 @@ ghost use Rattle.std.specs.Prelude.{◌≡◌, ◌⊎◌, IfErr, IfOk};
 ghost use Rattle.std.specs.Option.{option_copied};
 ghost use Rattle.krb_messages.specs.RandomBytes.{AreEnoughForRequest};
 ghost use Rattle.krb_client.specs.Refusals.{IsTaken};
-ghost use Rattle.krb_client.specs.Requests.{pa_data_of};
+ghost use Rattle.krb_tickets.specs.MethodData.{pa_data_of};
 ghost use Rattle.pkinit_clients.specs.Faults.{IsTakenAs, as_secret};
 ghost use Rattle.pkinit_clients.specs.Means.{IsNoPkinitPadata, IsPkinitPadata, key_in, pk_as_rep_in, pkinit_asked, reply_key};
 ghost use Rattle.pkinit_clients.specs.Replies.{secret_of};
@@ -19,9 +19,9 @@ use krb_crypto::diffie_hellman::agreed_key;
 use krb_messages::data_types::PaData;
 use krb_messages::first_of;
 use krb_messages::messages::{KdcRep, KdcReqBody};
+use krb_tickets::pa_data;
 use krb_time::Moment;
-use picky_asn1::wrapper::{IntegerAsn1, OctetStringAsn1};
-use picky_asn1_der::ExplicitContextTag;
+use picky_asn1::wrapper::OctetStringAsn1;
 use pkinit_validation::Anchor;
 use std::alloc::{AllocError, Global};
 use x509_keys::KeyFunctions;
@@ -83,19 +83,8 @@ fn pkinit_padata<K: KeyFunctions>(
     let Some(value) = made else {
         return Err(AskRefusal::NoKeyFunction);
     };
-    let padata = pa_data_of(alloc, value)?;
+    let padata = pa_data(alloc, PA_PK_AS_REQ, value)?;
     Ok(padata)
-}
-
-// The padata PA-PK-AS-REQ with this padata-value.
-fn pa_data_of(alloc: Global, value: Vec<u8>) -> Result<PaData, AllocError>
-    ensures { IfOk result (λ padata. padata ≡ pa_data_of PA_PK_AS_REQ value.items) }
-{
-    let kind = IntegerAsn1::from_u64(alloc, u64::from(PA_PK_AS_REQ))?;
-    Ok(PaData {
-        padata_type: ExplicitContextTag(kind),
-        padata_data: ExplicitContextTag(OctetStringAsn1::from(value)),
-    })
 }
 
 // The reply key, which is made of the secret that the reply's PA-PK-AS-REP gives.
