@@ -53,6 +53,10 @@ LacksRoom old new = (4 ≤ length old.stream) × (announced old.stream ≤ frame
 abbrev pub LacksAccounts : Left → Left → Type 0
 LacksAccounts old new = TakesMoment old new × (words_needed ≤ length old.words) × (new.words ≡ drop words_needed old.words)
 
+-- accounts that answering some message needs may be unreadable
+abbrev pub MayLackAccounts : (List ℕ → Type 0) → Type 0
+MayLackAccounts lacks = (message : List ℕ) × lacks message
+
 -- `replies message moment words answer`: whether the responder may answer so; the answer is none where the bytes are no request
 module _ (replies : List ℕ → Micros → List ℕ → Option (List ℕ) → Type 0) where
   -- some message is no request

@@ -143,7 +143,7 @@ pub(crate) fn answer_frame<A: Responder, K: Source, W: Sink>(
         (λ _. IsAnswered (A.replies responder.now) message.now moment words (W.written writer.old) (W.written writer.new) (K.left words_reader.new))
         (IsStepFault (A.replies responder.now) (A.may_want_memory responder.now) message.now moment words (W.written writer.old) (W.written writer.new) (K.left words_reader.new))) }
     ensures faults { IfErr result IsAnswerFault }
-    ensures refusals { IfErr result (IsRefusal (A.replies responder.now) (A.may_lack_accounts responder.now)) }
+    ensures refusals { IfErr result (IsRefusal (A.replies responder.now) (A.may_lack_accounts responder.now message.now)) }
     ensures read_count { MatchResult result (λ _. K.failed words_reader.new ≡ K.failed words_reader.old)
         (λ fault. K.failed words_reader.new ≡ after_read_fault (K.failed words_reader.old) fault) }
     ensures write_count { MatchResult result (λ _. W.failed writer.new ≡ W.failed writer.old)

@@ -16,11 +16,11 @@ pub trait Responder {
     // Whether answering a message may need memory. Any other is answered however little memory there is.
     ghost may_want_memory: { Self → List ℕ → Type 0 };
 
-    // Whether the accounts may be unreadable. Of accounts in memory they never are.
-    ghost may_lack_accounts: { Self → Type 0 };
+    // Whether accounts that answering a message needs may be unreadable. Of accounts in memory they never are.
+    ghost may_lack_accounts: { Self → List ℕ → Type 0 };
 
-    /// Replies to `message`. The refusal `Unreadable` alone says that it is no request. The refusal `Accounts` says that the accounts
-    /// can't be read.
+    /// Replies to `message`. The refusal `Unreadable` alone says that it is no request. The refusal `Accounts` says that accounts
+    /// which that needs can't be read.
     fn answer(
         &self,
         alloc: Global,
@@ -32,7 +32,7 @@ pub trait Responder {
         ensures reply { MatchResult result (λ reply. replies self.now message.now moment words.now (Some reply.items))
             (λ refusal. refusal ≡ AnswerRefusal.Unreadable → replies self.now message.now moment words.now None) }
         ensures memory { IfErr result (λ refusal. refusal ≡ AnswerRefusal.Memory → may_want_memory self.now message.now) }
-        ensures accounts { IfErr result (λ refusal. refusal ≡ AnswerRefusal.Accounts → may_lack_accounts self.now) };
+        ensures accounts { IfErr result (λ refusal. refusal ≡ AnswerRefusal.Accounts → may_lack_accounts self.now message.now) };
 }
 
 /// A responder that has at most one reply to a message at a moment and with the same random bytes. Its law is `one_reply`, which says

@@ -1,7 +1,7 @@
 //! The loop over the frames of a stream.
 ghost use Rattle.std.specs.Prelude.{◌≡◌, ◌≢◌, ℕ, ◌++◌, List, Err};
 ghost use Rattle.std.specs.Iterator.{IsFinite, DrainsIf};
-ghost use Rattle.krb_frames.specs.Serving.{CountsReadFault, CountsWriteFault, Draws, IsFinal, IsServed, KeepsReadCounts, KeepsWriteCount, Left, MayRefuse, Serves, at, device_bytes};
+ghost use Rattle.krb_frames.specs.Serving.{CountsReadFault, CountsWriteFault, Draws, IsFinal, IsServed, KeepsReadCounts, KeepsWriteCount, Left, MayLackAccounts, MayRefuse, Serves, at, device_bytes};
 
 use crate::frame::{answer_frame, read_frame};
 use crate::{Responder, ServeFault};
@@ -47,7 +47,7 @@ pub fn serve<A: Responder, R: Source, W: Sink, M: Iterator<Item = Moment> + Drop
     ensures read_kept { KeepsReadCounts result (R.failed reader.old) (R.failed reader.new) (K.failed words_reader.old) (K.failed words_reader.new) }
     ensures write_kept { KeepsWriteCount result (W.failed writer.old) (W.failed writer.new) }
     ensures no_request { result ≡ Err ServeFault.NoRequest → MayRefuse (A.replies responder.now) }
-    ensures accounts { result ≡ Err ServeFault.Accounts → A.may_lack_accounts responder.now }
+    ensures accounts { result ≡ Err ServeFault.Accounts → MayLackAccounts (A.may_lack_accounts responder.now) }
 {
     serve_frames(alloc, responder, reader, writer, &mut moments, words_reader)
 }
@@ -71,7 +71,7 @@ fn serve_frames<A: Responder, R: Source, W: Sink, M: Iterator<Item = Moment>, K:
     ensures read_kept { KeepsReadCounts result (R.failed reader.old) (R.failed reader.new) (K.failed words_reader.old) (K.failed words_reader.new) }
     ensures write_kept { KeepsWriteCount result (W.failed writer.old) (W.failed writer.new) }
     ensures no_request { result ≡ Err ServeFault.NoRequest → MayRefuse (A.replies responder.now) }
-    ensures accounts { result ≡ Err ServeFault.Accounts → A.may_lack_accounts responder.now }
+    ensures accounts { result ≡ Err ServeFault.Accounts → MayLackAccounts (A.may_lack_accounts responder.now) }
 {
     let mut answered = 0u64;
     'frames: while let Some(message) = read_frame(alloc, reader)? {
@@ -99,7 +99,7 @@ pub fn serve_bytes<A: Responder>(
 
     // Bytes in memory never fail.
     ensures devices { result ≢ Err ServeFault.Memory → result ≢ Err ServeFault.Accounts → IsFinal result }
-    ensures accounts { result ≡ Err ServeFault.Accounts → A.may_lack_accounts responder.now }
+    ensures accounts { result ≡ Err ServeFault.Accounts → MayLackAccounts (A.may_lack_accounts responder.now) }
 {
     let mut reader = stream;
     let mut words_reader = words;

@@ -1,5 +1,6 @@
 //! Serving the frames of a stream at the moments of a clock, or at one moment.
 ghost use Rattle.std.specs.Prelude.{◌≡◌, ◌≢◌, Err};
+ghost use Rattle.krb_frames.specs.Serving.{MayLackAccounts, MayRefuse};
 ghost use Rattle.krb_frames.specs.Tolerance.{Tolerates};
 ghost use Rattle.krb_frames.specs.Devices.{AnswersFailures, IsOutputAt, IsOutputByClock, device, devices};
 
@@ -34,7 +35,7 @@ pub fn serve_by_clock<A: Responder, C: Clock, K: Source, R: Source, W: Sink>(
         (devices (device (K.left words_reader.new) (K.failed words_reader.new)) (device (R.left reader.new) (R.failed reader.new)) (device (W.written writer.new) (W.failed writer.new)))
         result }
     ensures goes_on { result ≢ Err ServeFault.NoRequest }
-    ensures accounts { result ≡ Err ServeFault.Accounts → A.may_lack_accounts responder.now }
+    ensures accounts { result ≡ Err ServeFault.Accounts → MayLackAccounts (A.may_lack_accounts responder.now) }
 {
     goes_on::<A>();
     let tolerant = Tolerant { responder };
@@ -59,7 +60,8 @@ pub fn serve_at<A: Responder, K: Source, R: Source, W: Sink>(
         (devices (device (K.left words_reader.old) (K.failed words_reader.old)) (device (R.left reader.old) (R.failed reader.old)) (device (W.written writer.old) (W.failed writer.old)))
         (devices (device (K.left words_reader.new) (K.failed words_reader.new)) (device (R.left reader.new) (R.failed reader.new)) (device (W.written writer.new) (W.failed writer.new)))
         result }
-    ensures accounts { result ≡ Err ServeFault.Accounts → A.may_lack_accounts responder.now }
+    ensures no_request { result ≡ Err ServeFault.NoRequest → MayRefuse (A.replies responder.now) }
+    ensures accounts { result ≡ Err ServeFault.Accounts → MayLackAccounts (A.may_lack_accounts responder.now) }
 {
     let moments = iter::repeat_n(moment, usize::MAX);
     serve(alloc, responder, reader, writer, moments, words_reader)

@@ -4,3 +4,4 @@ mod Fetched
 mod Opened
 mod Answered
 mod Told
+mod Failing

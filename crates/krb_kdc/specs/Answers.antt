@@ -6,6 +6,7 @@ use Rattle.krb_frames.specs.declared.fault.AnswerRefusal.{AnswerRefusal}
 use Rattle.krb_frames.specs.declared.fault.AnswerRefusal.TheVariants as responder
 use Rattle.krb_kdc.specs.Begins.{BeginsRequest, IsNoRequest}
 use Rattle.krb_kdc.specs.Faults.{MayFail}
+use Rattle.krb_kdc.specs.declared.fault.LookupFault.{LookupFault}
 use Rattle.krb_kdc.specs.declared.fault.LookupFault.TheVariants as fault
 use Rattle.krb_kdc.specs.declared.fault.LookupRefusal.{LookupRefusal}
 use Rattle.krb_kdc.specs.declared.fault.LookupRefusal.TheVariants.{Unreadable, Fault}
@@ -16,8 +17,8 @@ IsAnswerBy replies (Ok reply) = replies (Some reply.items)
 IsAnswerBy replies (Err Unreadable) = replies None
 IsAnswerBy replies (Err (Fault fault)) = Unit {0}
 
--- The message is no request. Or it begins as one, and memory ran out or it may be that an account can't be read.
-abbrev pub MayRefuse : Type 0 → Bytes → LookupRefusal → Type 0
+-- The message is no request. Or it begins as one, and memory ran out, or there may be this fault.
+abbrev pub MayRefuse : (LookupFault → Type 0) → Bytes → LookupRefusal → Type 0
 MayRefuse may message Unreadable = IsNoRequest message
 MayRefuse may message (Fault fault) = BeginsRequest message × MayFail may fault
 

@@ -6,4 +6,5 @@ pub mod Calls
 pub mod Tickets
 pub mod Involved
 pub mod Sources
+pub mod Failing
 pub mod Seen

@@ -36,7 +36,7 @@ impl<'a, P: Pkinit> PkinitSource for Always<'a, P> {
 
     ghost gives = { λ own _ given. given ≡ own };
 
-    ghost may_fail = { λ _. ⊥ };
+    ghost may_fail = { λ _ _. ⊥ };
 
     fn pkinit_for(&self, _alloc: Global, _request: &KdcReq) -> Result<Always<'a, P>, LookupFault> {
         Ok(Always {

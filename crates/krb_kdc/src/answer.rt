@@ -12,10 +12,11 @@ ghost use Rattle.krb_messages.specs.TicketGranting.{krbtgt_of};
 ghost use Rattle.krb_kdc_exchanges.specs.Replies.{Replies, tgs_reply};
 ghost use Rattle.krb_kdc.specs.Answers.{IsAnswerBy, MayRefuse};
 ghost use Rattle.krb_kdc.specs.Calls.{call_with};
+ghost use Rattle.krb_kdc.specs.Failing.{FailsAs, FailsFor, FailsNamed, FailsTgs};
 ghost use Rattle.krb_kdc.specs.Faults.{MayFail};
 ghost use Rattle.krb_kdc.specs.Involved.{IsNamedFetched, KnowsFurther, KnowsNamed};
 ghost use Rattle.krb_kdc.specs.Seen.{IsTold};
-ghost use Rattle.krb_kdc.specs.Sources.{RepliesBy, as_reply_by};
+ghost use Rattle.krb_kdc.specs.Sources.{AsksByCertificate, IsByCertificate, RepliesBy, as_reply_by};
 ghost use Rattle.krb_kdc.specs.Tickets.{IsTicketOf};
 
 use crate::always::Always;
@@ -35,7 +36,6 @@ use krb_messages::data_types::{EncTicketPartInner, PrincipalName};
 use krb_messages::krbtgt_of;
 use krb_messages::messages::KdcReq;
 use krb_realm_accounts::Accounts;
-use picky_asn1::wrapper::GeneralStringAsn1;
 use std::alloc::Global;
 
 /// Returns the reply to a message, of a realm whose accounts are looked up (RFC 4120, sections 3.1 and 3.3). It is the reply of the realm
@@ -54,7 +54,7 @@ pub fn answer_by<L: Lookup, P: Pkinit>(
 ) -> Result<Vec<u8>, LookupRefusal>
     requires { AreEnoughForReply call.now.words.now }
     ensures answer { (all : Look) → L.holds lookup.now all → IsAnswerBy (Replies (call_with call.now all) (P.rows pkinit.now) message.now) result }
-    ensures refusal { IfErr result (MayRefuse (L.may_fail lookup.now) message.now) }
+    ensures refusal { IfErr result (MayRefuse (FailsFor (L.holds lookup.now) (L.may_fail lookup.now) call.now.realm.now message.now) message.now) }
 {
     let source = Always { pkinit };
     answer_observed(alloc, lookup, call, &source, &mut Unobserved, message)
@@ -74,7 +74,9 @@ pub fn answer_observed<L: Lookup, S: PkinitSource, O: Observer>(
 ) -> Result<Vec<u8>, LookupRefusal>
     requires { AreEnoughForReply call.now.words.now }
     ensures answer { (all : Look) → L.holds lookup.now all → IsAnswerBy (RepliesBy S.Given.rows (S.gives source.now) (call_with call.now all) message.now) result }
-    ensures refusal { IfErr result (MayRefuse (L.may_fail lookup.now ⊎ S.may_fail source.now) message.now) }
+    ensures refusal { IfErr result (MayRefuse
+        (λ fault. FailsFor (L.holds lookup.now) (L.may_fail lookup.now) call.now.realm.now message.now fault ⊎ (AsksByCertificate message.now × S.may_fail source.now fault))
+        message.now) }
 
     // What the observer saw is of this message and of this reply.
     ensures told { IfOk result (λ reply. IsTold O.sees (L.holds lookup.now) call.now.realm.now message.now observer.old observer.new reply.items) }
@@ -109,7 +111,7 @@ fn as_answer<L: Lookup, S: PkinitSource, O: Observer>(
     requires { AreEnoughForReply call.now.words.now }
     ensures answer { (all : Look) → L.holds lookup.now all
         → IfOk result (λ reply. (pkinit : S.Given) × S.gives source.now request.now pkinit × (as_reply_by (call_with call.now all) (S.Given.rows pkinit) request.now).gives (Some reply.items)) }
-    ensures fault { IfErr result (MayFail (L.may_fail lookup.now ⊎ S.may_fail source.now)) }
+    ensures fault { IfErr result (MayFail (λ fault. FailsAs (L.may_fail lookup.now) request.now fault ⊎ (IsByCertificate request.now × S.may_fail source.now fault))) }
     ensures told { (message : Bytes) → IsAsReq message request.now
         → IfOk result (λ reply. IsTold O.sees (L.holds lookup.now) call.now.realm.now message observer.old observer.new reply.items) }
 {
@@ -130,11 +132,11 @@ fn tgs_answer<L: Lookup, O: Observer>(
 ) -> Result<Vec<u8>, LookupFault>
     requires { AreEnoughForReply call.now.words.now }
     ensures answer { (all : Look) → L.holds lookup.now all → IfOk result (λ reply. (tgs_reply (call_with call.now all) request.now).gives (Some reply.items)) }
-    ensures fault { IfErr result (MayFail (L.may_fail lookup.now)) }
+    ensures fault { IfErr result (MayFail (FailsTgs (L.holds lookup.now) (L.may_fail lookup.now) call.now request.now)) }
     ensures told { (message : Bytes) → IsTgsReq message request.now
         → IfOk result (λ reply. IsTold O.sees (L.holds lookup.now) call.now.realm.now message observer.old observer.new reply.items) }
 {
-    let further = further_accounts(alloc, lookup, call.realm, request)?;
+    let further = further_accounts(alloc, lookup, call, request)?;
     let reply = tgs_reply(alloc, &call.with(&further.few), request)?;
     let ticket = further.ticket.as_ref();
     see_tgs(
@@ -195,7 +197,7 @@ fn named_accounts<L: Lookup>(
 ) -> Result<Accounts, LookupFault>
     ensures few { (all : Look) → L.holds lookup.now all
         → IfOk result (λ few. KnowsNamed all few (client_of (body_of request.now)) × KnowsNamed all few (service_of (body_of request.now))) }
-    ensures fault { IfErr result (MayFail (L.may_fail lookup.now)) }
+    ensures fault { IfErr result (MayFail (FailsAs (L.may_fail lookup.now) request.now)) }
 {
     let named = named_in(&request.req_body.0);
     let mut few = Accounts::new(alloc);
@@ -215,15 +217,15 @@ struct Further {
 fn further_accounts<L: Lookup>(
     alloc: Global,
     lookup: &L,
-    realm: &GeneralStringAsn1,
+    call: &LookupCall<'_>,
     request: &KdcReq,
 ) -> Result<Further, LookupFault>
-    ensures few { (all : Look) → L.holds lookup.now all → IfOk result (λ further. KnowsFurther all further.few (krbtgt_of realm.now) request.now) }
+    ensures few { (all : Look) → L.holds lookup.now all → IfOk result (λ further. KnowsFurther all further.few (krbtgt_of call.now.realm.now) request.now) }
     ensures ticket { (all : Look) → L.holds lookup.now all
-        → IfOk result (λ further. IsFound (IsTicketOf further.few (krbtgt_of realm.now) (padata_in request.now)) further.ticket) }
-    ensures fault { IfErr result (MayFail (L.may_fail lookup.now)) }
+        → IfOk result (λ further. IsFound (IsTicketOf further.few (krbtgt_of call.now.realm.now) (padata_in request.now)) further.ticket) }
+    ensures fault { IfErr result (MayFail (FailsTgs (L.holds lookup.now) (L.may_fail lookup.now) call.now request.now)) }
 {
-    let granting = krbtgt_of(alloc, realm)?;
+    let granting = krbtgt_of(alloc, call.realm)?;
     let mut few = Accounts::new(alloc);
     fetch(alloc, lookup, &mut few, &granting)?;
     let ticket = fetch_client(alloc, lookup, &mut few, &granting, request)?;
@@ -244,7 +246,7 @@ fn fetch_named<L: Lookup>(
     name: Option<&PrincipalName>,
 ) -> Result<(), LookupFault>
     ensures few { (all : Look) → L.holds lookup.now all → OnOk result (IsNamedFetched all (option_copied name.entry) few.old few.new) }
-    ensures fault { IfErr result (MayFail (L.may_fail lookup.now)) }
+    ensures fault { IfErr result (MayFail (FailsNamed (L.may_fail lookup.now) (option_copied name.entry))) }
 {
     match name {
         Some(name) => fetch(alloc, lookup, few, name.name_string.0.as_slice()),

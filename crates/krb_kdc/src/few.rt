@@ -21,7 +21,7 @@ pub(crate) fn fetch<L: Lookup>(
     name: &[GeneralStringAsn1],
 ) -> Result<(), LookupFault>
     ensures few { (all : Look) → L.holds lookup.now all → OnOk result (IsFetched all name.now few.old few.new) }
-    ensures fault { IfErr result (MayFail (L.may_fail lookup.now)) }
+    ensures fault { IfErr result (MayFail (L.may_fail lookup.now name.now)) }
 {
     if has(few, name) {
         return Ok(());

@@ -1,7 +1,9 @@
 //! What accounts are looked up in.
-ghost use Rattle.std.specs.Prelude.{◌≡◌, IfOk, IfErr};
+ghost use Rattle.std.specs.Prelude.{◌≡◌, List, IfOk, IfErr};
 ghost use Rattle.krb_realm_accounts.specs.Accounts.{Look};
+ghost use Rattle.picky_asn1.specs.Bytes.{Bytes};
 ghost use Rattle.krb_kdc.specs.Faults.{MayFail};
+ghost use Rattle.krb_kdc.specs.declared.fault.LookupFault.{LookupFault};
 
 use crate::fault::LookupFault;
 use krb_realm_accounts::{Account, Accounts};
@@ -13,8 +15,8 @@ pub trait Lookup {
     // Whether it may be that each name has the account which this function gives. Where the accounts can't be read, any account may be.
     ghost holds: { Self → Look → Type 0 };
 
-    // Whether it may be that an account can't be read.
-    ghost may_fail: { Self → Type 0 };
+    // Whether it may be that the account of a name can't be read by this fault.
+    ghost may_fail: { Self → List Bytes → LookupFault → Type 0 };
 
     /// The account of a name, or none if the name has none. It refuses as `Damaged` or `Failed` if the account can't be read, and as
     /// `Memory` if memory runs out.
@@ -24,7 +26,7 @@ pub trait Lookup {
         name: &[GeneralStringAsn1],
     ) -> Result<Option<Account>, LookupFault>
         ensures account { (all : Look) → holds self.now all → IfOk result (λ account. account ≡ all name.now) }
-        ensures fault { IfErr result (MayFail (may_fail self.now)) };
+        ensures fault { IfErr result (MayFail (may_fail self.now name.now)) };
 }
 
 // Accounts in memory can always be read.
@@ -33,7 +35,7 @@ impl Lookup for Accounts {
 
     ghost holds = { λ accounts all. look_in accounts ≡ all };
 
-    ghost may_fail = { λ _. ⊥ };
+    ghost may_fail = { λ _ _ _. ⊥ };
 
     fn account(
         &self,

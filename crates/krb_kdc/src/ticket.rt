@@ -5,6 +5,7 @@ ghost use Rattle.krb_ap_requests.specs.ApTable.{enc_part_in};
 ghost use Rattle.krb_ap_requests.specs.Messages.{IsTicketPart};
 ghost use Rattle.picky_asn1_der.specs.Found.{IsFound};
 ghost use Rattle.krb_messages.specs.Padata.{padata_in};
+ghost use Rattle.krb_kdc.specs.Failing.{FailsClient};
 ghost use Rattle.krb_kdc.specs.Faults.{MayFail};
 ghost use Rattle.krb_kdc.specs.Tickets.{IsClientFetched, IsTicketOf};
 
@@ -30,7 +31,7 @@ pub(crate) fn fetch_client<L: Lookup>(
 ) -> Result<Option<EncTicketPartInner>, LookupFault>
     ensures few { (all : Look) → L.holds lookup.now all → OnOk result (IsClientFetched all granting.now (padata_in request.now) few.old few.new) }
     ensures ticket { IfOk result (IsFound (IsTicketOf few.old granting.now (padata_in request.now))) }
-    ensures fault { IfErr result (MayFail (L.may_fail lookup.now)) }
+    ensures fault { IfErr result (MayFail (FailsClient (L.may_fail lookup.now) few.old granting.now (padata_in request.now))) }
 {
     let Some(part) = part_by(alloc, few, granting, padata_in(request))? else {
         return Ok(None);

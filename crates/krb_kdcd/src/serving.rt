@@ -1,12 +1,13 @@
 //! Serving the realm of a file.
 ghost use Rattle.std.specs.Prelude.{◌≡◌, ◌≢◌, Err};
 ghost use Rattle.krb_frames.specs.Devices.{AnswersFailures, IsOutputAt, IsOutputByClock, device, devices};
+ghost use Rattle.krb_frames.specs.Serving.{MayLackAccounts};
 ghost use Rattle.krb_frames.specs.Tolerance.{Tolerates};
 ghost use Rattle.krb_kdc.specs.Begins.{BeginsRequest};
 ghost use Rattle.krb_realm_files.specs.Replies.{MayLack, RepliesFrom};
 
 use byte_streams::{Sink, Source};
-use krb_frames::{ServeFault, Tolerant, serve_at, serve_by_clock};
+use krb_frames::{ServeFault, Tolerant, goes_on, serve_at, serve_by_clock};
 use krb_log::Logged;
 use krb_realm_files::{FaultReporter, FileRealm, Opens};
 use krb_time::Moment;
@@ -41,7 +42,7 @@ pub(crate) fn serve_realm<
         result }
     ensures goes_on { result ≢ Err ServeFault.NoRequest }
     ensures accounts { result ≡ Err ServeFault.Accounts
-        → MayLack (O.opens realm.now.accounts.now) (O.fails realm.now.accounts.now) O.File.content O.File.fails }
+        → MayLackAccounts (MayLack (O.opens realm.now.accounts.now) (O.fails realm.now.accounts.now) O.File.content O.File.fails) }
 {
     if is_logged {
         let logged = Logged {
@@ -80,10 +81,12 @@ pub(crate) fn serve_realm_at<
         (devices (device (K.left words_reader.old) (K.failed words_reader.old)) (device (R.left reader.old) (R.failed reader.old)) (device (W.written writer.old) (W.failed writer.old)))
         (devices (device (K.left words_reader.new) (K.failed words_reader.new)) (device (R.left reader.new) (R.failed reader.new)) (device (W.written writer.new) (W.failed writer.new)))
         result }
+    ensures goes_on { result ≢ Err ServeFault.NoRequest }
     ensures accounts { result ≡ Err ServeFault.Accounts
-        → MayLack (O.opens realm.now.accounts.now) (O.fails realm.now.accounts.now) O.File.content O.File.fails }
+        → MayLackAccounts (MayLack (O.opens realm.now.accounts.now) (O.fails realm.now.accounts.now) O.File.content O.File.fails) }
 {
     if is_logged {
+        goes_on::<Logged<'_, O, T, C>>();
         let logged = Logged {
             accounts: realm.accounts,
             faults: realm.faults,
@@ -92,6 +95,7 @@ pub(crate) fn serve_realm_at<
         let tolerant = Tolerant { responder: &logged };
         return serve_at(alloc, &tolerant, moment, words_reader, reader, writer);
     }
+    goes_on::<FileRealm<'_, O, T>>();
     let tolerant = Tolerant { responder: realm };
     serve_at(alloc, &tolerant, moment, words_reader, reader, writer)
 }

@@ -39,7 +39,7 @@ pub fn noted_answer<O: Opens, T: FaultReporter, C: Clock>(
         (λ refusal. refusal ≡ AnswerRefusal.Unreadable → RepliesFrom (O.opens realm.now.accounts.now) O.File.content message.now moment words.now None) }
     ensures memory { IfErr result.answered (λ refusal. refusal ≡ AnswerRefusal.Memory → BeginsRequest message.now) }
     ensures accounts { IfErr result.answered (λ refusal. refusal ≡ AnswerRefusal.Accounts
-        → MayLack (O.opens realm.now.accounts.now) (O.fails realm.now.accounts.now) O.File.content O.File.fails) }
+        → MayLack (O.opens realm.now.accounts.now) (O.fails realm.now.accounts.now) O.File.content O.File.fails message.now) }
 
     // The entry is of this message and this reply, with the accounts of the file that the reply is from.
     ensures entry { IfOk result.entry (IsEntry (O.opens realm.now.accounts.now) O.File.content message.now result.answered) }

@@ -3,12 +3,14 @@ use Rattle.std.proofs.Common.{◌≡◌, ℕ, Option, Result, Err, ap, sym, subs
 use Rattle.std.specs.Prelude.{Vec}
 use Rattle.std.specs.Global.{Global}
 use Rattle.x509_keys.specs.KeyFunctions.{KeysRecord}
-use Rattle.krb_realm_accounts.specs.Accounts.{look_in}
+use Rattle.krb_realm_accounts.specs.Accounts.{Look, look_in}
 use Rattle.krb_realm_accounts.specs.Settings.{SettingsRecord}
 use Rattle.krb_frames.specs.declared.fault.AnswerRefusal.{AnswerRefusal}
 use Rattle.krb_frames.specs.declared.fault.AnswerRefusal.TheVariants.{Memory}
 use Rattle.krb_kdc.specs.Answers.{IsAnswerBy, MayRefuse, refusal_of}
 use Rattle.krb_kdc.specs.Begins.{BeginsRequest}
+use Rattle.krb_kdc.specs.Failing.{FailsFor}
+use Rattle.krb_kdc.specs.declared.fault.LookupFault.{LookupFault}
 use Rattle.krb_kdc.specs.declared.fault.LookupFault.TheVariants as fault
 use Rattle.krb_kdc.specs.declared.fault.LookupRefusal.{LookupRefusal}
 use Rattle.krb_kdc.specs.declared.fault.LookupRefusal.TheVariants.{Unreadable, Fault}
@@ -40,16 +42,22 @@ of_own own realm limits moment words rows wanted message result same is same_row
     subst (λ r. IsAnswerBy (Replies (call_to realm moment words) r message) result) same_rows (subst (λ call. IsAnswerBy (Replies call rows message) result) same_call answer)
 
 -- why it gives no reply: its accounts can always be read
-pub refused : (replies : Option Bytes → Type 0) (message : Bytes) (refusal : LookupRefusal) (given : AnswerRefusal) → given ≡ refusal_of refusal
-    → IsAnswerBy replies (Err refusal) → MayRefuse ⊥ message refusal → IsAnswer replies (Err given)
-refused replies message refusal given same is may = subst (λ g. IsAnswer replies (Err g)) (sym same) (by refusal is may)
-  where
-    by : (refusal : LookupRefusal) → IsAnswerBy replies (Err refusal) → MayRefuse ⊥ message refusal → IsAnswer replies (Err (refusal_of refusal))
-    by Unreadable is may = is
-    by (Fault fault.Memory) is may = tt
-    by (Fault (fault.Failed kind)) is may = absurd may.1
-    by (Fault fault.Damaged) is may = absurd may.1
+never : (holds : Look → Type 0) (realm message : Bytes) (own : LookupFault) → FailsFor holds (λ name given. ⊥) realm message own → ⊥
+never holds realm message own (name, involved, fails) = fails
 
-pub begins : (message : Bytes) (refusal : LookupRefusal) (given : AnswerRefusal) → given ≡ refusal_of refusal → MayRefuse ⊥ message refusal → given ≡ Memory → BeginsRequest message
-begins message Unreadable given same may memory = absurd (cc (same, memory))
-begins message (Fault fault) given same may memory = may.0
+module _ (replies : Option Bytes → Type 0) (holds : Look → Type 0) (realm message : Bytes) where
+  refused_by : (refusal : LookupRefusal) → IsAnswerBy replies (Err refusal) → MayRefuse (FailsFor holds (λ name given. ⊥) realm message) message refusal
+      → IsAnswer replies (Err (refusal_of refusal))
+  refused_by Unreadable is may = is
+  refused_by (Fault fault.Memory) is may = tt
+  refused_by (Fault (fault.Failed kind)) is may = absurd (never holds realm message (fault.Failed kind) may.1)
+  refused_by (Fault fault.Damaged) is may = absurd (never holds realm message fault.Damaged may.1)
+
+  pub refused : (refusal : LookupRefusal) (given : AnswerRefusal) → given ≡ refusal_of refusal → IsAnswerBy replies (Err refusal)
+      → MayRefuse (FailsFor holds (λ name given. ⊥) realm message) message refusal → IsAnswer replies (Err given)
+  refused refusal given same is may = subst (λ g. IsAnswer replies (Err g)) (sym same) (refused_by refusal is may)
+
+pub begins : (may : LookupFault → Type 0) (message : Bytes) (refusal : LookupRefusal) (given : AnswerRefusal) → given ≡ refusal_of refusal → MayRefuse may message refusal → given ≡ Memory
+    → BeginsRequest message
+begins may message Unreadable given same refuses memory = absurd (cc (same, memory))
+begins may message (Fault fault) given same refuses memory = refuses.0

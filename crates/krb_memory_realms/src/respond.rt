@@ -29,7 +29,7 @@ impl<'a, K: KeyFunctions> Responder for Answering<'a, K> {
 
     ghost may_want_memory = { λ _ message. BeginsRequest message };
 
-    ghost may_lack_accounts = { λ _. ⊥ };
+    ghost may_lack_accounts = { λ _ _. ⊥ };
 
     fn answer(
         &self,

@@ -9,3 +9,4 @@ mod Unasked
 mod Parts
 mod Sources
 mod Answered
+mod Refusing

@@ -1,5 +1,5 @@
 -- What a file says of its realm and its accounts.
-use Rattle.std.proofs.Common.{◌≡◌, ℕ, List, Option, None, Some, Result, Ok, Err, IfOk, IfErr, true, false, refl, sym, ap, subst, inl, inr, ◌∙◌}
+use Rattle.std.proofs.Common.{◌≡◌, ℕ, List, Option, None, Some, Result, Ok, Err, IfOk, IfErr, true, false, refl, sym, ap, subst, ◌∙◌}
 use Rattle.std.specs.declared.io.ErrorKind.{ErrorKind}
 use Rattle.krb_realm_accounts.specs.Account.{AccountRecord}
 use Rattle.krb_realm_accounts.specs.Accounts.{Look}
@@ -12,7 +12,7 @@ use Rattle.krb_kdc.specs.Faults.{MayFail}
 use Rattle.krb_kdc.specs.declared.fault.LookupFault.{LookupFault}
 use Rattle.krb_kdc.specs.declared.fault.LookupFault.TheVariants as lookup
 use Rattle.krb_realm_files.specs.declared.format.TheConstants.{RECORD_ROOM}
-use Rattle.krb_realm_files.specs.Files.{IsFallible, IsLookOf, account_found, account_front, account_said, fault_of, look_of, or_none, realm_found, realm_front, realm_key, realm_said}
+use Rattle.krb_realm_files.specs.Files.{FailsAccount, FailsRealm, IsLookOf, account_found, account_front, account_said, fault_of, look_of, or_none, realm_found, realm_front, realm_key, realm_said}
 use Rattle.krb_realm_files.specs.Reading.{IsSaid}
 use Rattle.krb_realm_files.specs.declared.realm_parameters.RealmParameters.{RealmParameters}
 
@@ -59,10 +59,10 @@ realm_is fails bytes result is = is
 
 -- The fault of a call that reads the realm's record.
 pub realm_fault : (fails : ErrorKind → Type 0) (content : Option (List ℕ)) (result : Result RealmParameters LookupFault)
-    → ((bytes : List ℕ) → content ≡ Some bytes → IsSaid fails (realm_said bytes) result) → IfErr result (MayFail (IsFallible content fails))
+    → ((bytes : List ℕ) → content ≡ Some bytes → IsSaid fails (realm_said bytes) result) → IfErr result (MayFail (FailsRealm content fails))
 realm_fault fails content (Ok realm) said = tt
-realm_fault fails content (Err (lookup.Failed kind)) said = λ bytes known. inl (kind, said bytes known)
-realm_fault fails content (Err lookup.Damaged) said = λ bytes known. inr (inl (said bytes known))
+realm_fault fails content (Err (lookup.Failed kind)) said = said
+realm_fault fails content (Err lookup.Damaged) said = said
 realm_fault fails content (Err lookup.Memory) said = tt
 
 -- What a call returned of a value, it returned of an equal one.
@@ -85,10 +85,10 @@ held_account fails bytes all name (Ok account) looks said = sym (looks name acco
 held_account fails bytes all name (Err fault) looks said = tt
 
 pub held_fault : (fails : ErrorKind → Type 0) (content : Option (List ℕ)) (name : List (List ℕ)) (result : Result (Option AccountRecord) LookupFault)
-    → ((bytes : List ℕ) → content ≡ Some bytes → IsSaid fails (account_said bytes name) result) → IfErr result (MayFail (IsFallible content fails))
+    → ((bytes : List ℕ) → content ≡ Some bytes → IsSaid fails (account_said bytes name) result) → IfErr result (MayFail (FailsAccount content fails name))
 held_fault fails content name (Ok account) said = tt
-held_fault fails content name (Err (lookup.Failed kind)) said = λ bytes known. inl (kind, said bytes known)
-held_fault fails content name (Err lookup.Damaged) said = λ bytes known. inr (inr (name, said bytes known))
+held_fault fails content name (Err (lookup.Failed kind)) said = said
+held_fault fails content name (Err lookup.Damaged) said = said
 held_fault fails content name (Err lookup.Memory) said = tt
 
 -- The accounts that the octets say, with none where they are damaged, are some that the file may have.

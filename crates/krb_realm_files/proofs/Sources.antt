@@ -1,11 +1,11 @@
 -- A reply by what is given for the request that was read is a reply of the file's realm.
-use Rattle.std.proofs.Common.{◌≡◌, ◌⊎◌, ℕ, List, None, Option, Some, Result, Ok, Err, inl, inr, sym, subst}
+use Rattle.std.proofs.Common.{◌≡◌, ◌⊎◌, ℕ, List, None, Option, Some, Result, Ok, Err, refl, inl, inr, sym, subst}
 use Rattle.std.specs.Prelude.{Vec, MatchResult}
 use Rattle.std.specs.Global.{Global}
 use Rattle.krb_realm_accounts.specs.Accounts.{Look}
 use Rattle.krb_kdc.specs.Answers.{IsAnswerBy}
 use Rattle.krb_kdc.specs.Faults.{MayFail}
-use Rattle.krb_kdc.specs.Sources.{RepliesBy}
+use Rattle.krb_kdc.specs.Sources.{IsByCertificate, RepliesBy}
 use Rattle.krb_kdc.specs.declared.fault.LookupFault.{LookupFault}
 use Rattle.krb_kdc.specs.declared.fault.LookupRefusal.{LookupRefusal}
 use Rattle.krb_kdc.specs.declared.fault.LookupRefusal.TheVariants.{Unreadable, Fault}
@@ -20,7 +20,7 @@ use Rattle.pkinit_validation.specs.Trust.{TrustRecord}
 use Rattle.rsa_keys.specs.Functions.{rsa_functions}
 use Rattle.rsa_keys.specs.declared.rsa_keys.RsaKeys.{RsaKeys}
 use Rattle.krb_realm_files.specs.Faults.{lookup_fault_of}
-use Rattle.krb_realm_files.specs.Lacks.{AreUnusable, IsWithoutBy}
+use Rattle.krb_realm_files.specs.Lacks.{FailsMeans}
 use Rattle.krb_realm_files.specs.Means.{IsUnusable, rows_of, trust_in}
 use Rattle.krb_realm_files.specs.RefusedPkinit.{refused_rows}
 use Rattle.krb_realm_files.specs.Replies.{ReplyBy, ReplyByRealm}
@@ -33,22 +33,24 @@ use Rattle.krb_realm_files.specs.declared.pkinit_fault.PkinitFault.TheVariants a
 use Rattle.krb_realm_files.specs.declared.realm_parameters.RealmParameters.{RealmParameters}
 use Rattle.krb_realm_files.proofs.Unasked.{unasked}
 
--- The fault of octets that are refused.
-pub unusable : (octets : List ℕ) (fault : PkinitFault) → IsUnusable octets fault → MayFail (AreUnusable octets) (lookup_fault_of fault)
-unusable octets pkinit.Memory is = tt
-unusable octets pkinit.NotThree is = (pkinit.NotThree, λ e. cc (e), is)
-unusable octets pkinit.Certificate is = (pkinit.Certificate, λ e. cc (e), is)
-unusable octets pkinit.Key is = (pkinit.Key, λ e. cc (e), is)
-unusable octets (pkinit.Refused why) is = (pkinit.Refused why, λ e. cc (e), is)
-unusable octets pkinit.OtherKey is = (pkinit.OtherKey, λ e. cc (e), is)
-unusable octets pkinit.Anchor is = (pkinit.Anchor, λ e. cc (e), is)
+-- The fault of octets that are refused, to a request by certificate.
+pub unusable : (octets : List ℕ) (request : KdcReq) (fault : PkinitFault) → IsByCertificate request → IsUnusable octets fault
+    → MayFail (λ own. IsByCertificate request × FailsMeans (Some octets) own) (lookup_fault_of fault)
+unusable octets request pkinit.Memory asks is = tt
+unusable octets request pkinit.NotThree asks is = (asks, refl, (pkinit.NotThree, λ e. cc (e), is))
+unusable octets request pkinit.Certificate asks is = (asks, refl, (pkinit.Certificate, λ e. cc (e), is))
+unusable octets request pkinit.Key asks is = (asks, refl, (pkinit.Key, λ e. cc (e), is))
+unusable octets request (pkinit.Refused why) asks is = (asks, refl, (pkinit.Refused why, λ e. cc (e), is))
+unusable octets request pkinit.OtherKey asks is = (asks, refl, (pkinit.OtherKey, λ e. cc (e), is))
+unusable octets request pkinit.Anchor asks is = (asks, refl, (pkinit.Anchor, λ e. cc (e), is))
 
 -- What is given by a realm's octets.
 pub for_octets : (own : Option (List ℕ)) (octets bytes : List ℕ) (request : KdcReq) (result : Result FilePkinit LookupFault) → own ≡ Some octets → bytes ≡ octets
-    → MatchResult result (IsGivenBy bytes request) (MayFail (AreUnusable bytes)) → MatchResult result (IsGiven own request) (MayFail (IsWithoutBy own))
+    → MatchResult result (IsGivenBy bytes request) (MayFail (λ fault. IsByCertificate request × FailsMeans (Some bytes) fault))
+    → MatchResult result (IsGiven own request) (MayFail (λ fault. IsByCertificate request × FailsMeans own fault))
 for_octets own octets bytes request result has same is =
-    subst (λ (p : Option (List ℕ)). MatchResult result (IsGiven p request) (MayFail (IsWithoutBy p))) (sym has)
-    (subst (λ (o : List ℕ). MatchResult result (IsGivenBy o request) (MayFail (AreUnusable o))) same is)
+    subst (λ (p : Option (List ℕ)). MatchResult result (IsGiven p request) (MayFail (λ fault. IsByCertificate request × FailsMeans p fault))) (sym has)
+    (subst (λ (o : List ℕ). MatchResult result (IsGivenBy o request) (MayFail (λ fault. IsByCertificate request × FailsMeans (Some o) fault))) same is)
 
 -- What the means judge.
 pub by_means : (means : PkinitMeans) (trust : TrustRecord) (keys : RsaKeys) (call : PkinitCallRecord) (padata : List ℕ) (result : Result AgreedRecord Refusal)
@@ -65,7 +67,7 @@ module _ (call : CallRecord) (message : List ℕ) where
   by_given None reply (inr (none, further)) = inr (none, further)
   by_given (Some octets) reply (inl (request, read, (file.Refused own, is, x))) =
       inl (λ means. unasked call (refused_rows own.is_offered) (rows_of means) message request reply is.0 read is.1 x)
-  by_given (Some octets) reply (inl (request, read, (file.Means means, are, x))) = inr (means, are, x)
+  by_given (Some octets) reply (inl (request, read, (file.Means means, are, x))) = inr ((request, read, are.0), (means, are.1, x))
   by_given (Some octets) reply (inr (none, further)) = inl (λ means. inr (none, further))
 
   pub answered_by : (own : Option (List ℕ)) (result : Result (Vec ℕ Global) LookupRefusal) → IsAnswerBy (RepliesBy file_rows (IsGiven own) call message) result

@@ -2,7 +2,7 @@
 --
 -- An account's record is under its name's block (`packed` of krb_realm_accounts). The realm's record is under the one octet 255. That is no
 -- name's block: the octets of a block are those of the name's characters, each plus one, and zeros, and a character is below 128.
-use Rattle.std.specs.Prelude.{◌≡◌, ◌⊎◌, List, [], ◌∷◌, ℕ, take, Option, None, Some, Result, Ok, Err, if◌then◌else◌}
+use Rattle.std.specs.Prelude.{◌≡◌, List, [], ◌∷◌, ℕ, take, Option, None, Some, Result, Ok, Err, if◌then◌else◌}
 use Rattle.std.specs.declared.io.ErrorKind.{ErrorKind}
 use Rattle.picky_asn1.specs.Bytes.{Bytes}
 use Rattle.krb_realm_accounts.specs.Account.{AccountRecord}
@@ -17,7 +17,7 @@ use Rattle.krb_realm_files.specs.declared.format.TheConstants.{REALM_KEY, RECORD
 use Rattle.krb_realm_files.specs.declared.realm_parameters.RealmParameters.{RealmParameters}
 use Rattle.krb_realm_files.specs.AccountRecords.{account_in}
 use Rattle.krb_realm_files.specs.RealmRecords.{realm_in}
-use Rattle.krb_realm_files.specs.Reading.{or_damaged}
+use Rattle.krb_realm_files.specs.Reading.{IsFaultAt, or_damaged}
 
 -- The fault of a look-up that the database refuses so. Data that are longer than any record are damaged.
 abbrev pub fault_of : Fault → LookupFault
@@ -72,13 +72,13 @@ IsLookOf bytes all = (name : List Bytes) (account : Option AccountRecord) → ac
 abbrev pub Holds : Option (List ℕ) → Look → Type 0
 Holds content all = (bytes : List ℕ) × (content ≡ Some bytes) × IsLookOf bytes all
 
--- The octets are damaged, at the realm's record or at some name's account.
-abbrev pub IsDamaged : List ℕ → Type 0
-IsDamaged bytes = (realm_said bytes ≡ Err Damaged) ⊎ ((name : List Bytes) × (account_said bytes name ≡ Err Damaged))
+-- By this fault the account of a name may fail: a read of the file fails so, or the octets are damaged at that name. Or they aren't known.
+abbrev pub FailsAccount : Option (List ℕ) → (ErrorKind → Type 0) → List Bytes → LookupFault → Type 0
+FailsAccount content fails name fault = (bytes : List ℕ) → content ≡ Some bytes → IsFaultAt fails (account_said bytes name) fault
 
--- A read of the file may fail by some kind of fault, or the file's octets are damaged, or they are not known.
-abbrev pub IsFallible : Option (List ℕ) → (ErrorKind → Type 0) → Type 0
-IsFallible content fails = (bytes : List ℕ) → content ≡ Some bytes → ((kind : ErrorKind) × fails kind) ⊎ IsDamaged bytes
+-- By this fault the realm's record may fail in the same way.
+abbrev pub FailsRealm : Option (List ℕ) → (ErrorKind → Type 0) → LookupFault → Type 0
+FailsRealm content fails fault = (bytes : List ℕ) → content ≡ Some bytes → IsFaultAt fails (realm_said bytes) fault
 
 -- The account that the octets say, or none where they are damaged.
 abbrev pub or_none : Result (Option AccountRecord) LookupFault → Option AccountRecord

@@ -1,30 +1,50 @@
--- When the realm of a file gives no reply to a request.
-use Rattle.std.specs.Prelude.{◌≡◌, ◌≢◌, ◌⊎◌, Option, None, Some, Ok}
+-- When the realm of a file gives no reply to a message.
+use Rattle.std.specs.Prelude.{◌≡◌, ◌≢◌, ◌⊎◌, List, Option, None, Some, Ok, Err}
 use Rattle.std.specs.declared.io.ErrorKind.{ErrorKind}
 use Rattle.picky_asn1.specs.Bytes.{Bytes}
-use Rattle.krb_realm_files.specs.Files.{IsDamaged, realm_said}
+use Rattle.krb_realm_accounts.specs.Accounts.{Look}
+use Rattle.krb_kdc.specs.Failing.{Involves}
+use Rattle.krb_kdc.specs.Sources.{AsksByCertificate}
+use Rattle.krb_kdc.specs.declared.fault.LookupFault.{LookupFault}
+use Rattle.krb_kdc.specs.declared.fault.LookupFault.TheVariants.{Failed, Damaged, Memory}
+use Rattle.krb_realm_files.specs.Files.{IsLookOf, account_said, realm_said}
 use Rattle.krb_realm_files.specs.declared.realm_parameters.RealmParameters.{RealmParameters}
 use Rattle.krb_realm_files.specs.Means.{IsUnusable}
 use Rattle.krb_realm_files.specs.declared.pkinit_fault.PkinitFault.{PkinitFault}
-use Rattle.krb_realm_files.specs.declared.pkinit_fault.PkinitFault.TheVariants.{Memory}
+use Rattle.krb_realm_files.specs.declared.pkinit_fault.PkinitFault.TheVariants as pkinit
 
 -- Logins by certificate can't be answered by these octets.
 abbrev pub AreUnusable : Bytes → Type 0
-AreUnusable octets = (fault : PkinitFault) × (fault ≢ Memory) × IsUnusable octets fault
+AreUnusable octets = (fault : PkinitFault) × (fault ≢ pkinit.Memory) × IsUnusable octets fault
 
 -- There are octets for logins by certificate, by which none can be answered.
-abbrev pub IsWithoutBy : Option Bytes → Type 0
-IsWithoutBy None = ⊥
-IsWithoutBy (Some octets) = AreUnusable octets
+abbrev pub IsWithout : Option Bytes → Type 0
+IsWithout None = ⊥
+IsWithout (Some octets) = AreUnusable octets
 
--- The realm has octets for logins by certificate, by which none can be answered.
-abbrev pub IsWithout : RealmParameters → Type 0
-IsWithout realm = IsWithoutBy realm.pkinit
+-- By this fault nothing is given that judges requests by certificate: their octets are damaged.
+abbrev pub FailsMeans : Option Bytes → LookupFault → Type 0
+FailsMeans octets fault = (fault ≡ Damaged) × IsWithout octets
 
--- The octets of a file are damaged: at the realm's record, at some name's account, or at what logins by certificate are answered by.
-abbrev pub IsSpoilt : Bytes → Type 0
-IsSpoilt bytes = IsDamaged bytes ⊎ ((realm : RealmParameters) × (realm_said bytes ≡ Ok realm) × IsWithout realm)
+-- The octets are damaged at an account that the message involves, whatever accounts the file may have.
+abbrev pub IsDamagedAccount : Bytes → Bytes → Bytes → Type 0
+IsDamagedAccount bytes realm message =
+    (name : List Bytes) × ((all : Look) → IsLookOf bytes all → Involves realm all message name) × (account_said bytes name ≡ Err Damaged)
 
--- A read of the file may fail by some kind of fault, or the file's octets are damaged, or they are not known.
-abbrev pub IsLacking : Option Bytes → (ErrorKind → Type 0) → Type 0
-IsLacking content fails = (bytes : Bytes) → content ≡ Some bytes → ((kind : ErrorKind) × fails kind) ⊎ IsSpoilt bytes
+-- The octets are damaged for a message: at the realm's record, at an account that the message involves, or, if it asks by certificate, at
+-- what logins by certificate are answered by.
+abbrev pub IsDamagedFor : Bytes → Bytes → Type 0
+IsDamagedFor bytes message =
+    (realm_said bytes ≡ Err Damaged)
+    ⊎ ((realm : RealmParameters) × (realm_said bytes ≡ Ok realm)
+    × (IsDamagedAccount bytes realm.name message ⊎ (AsksByCertificate message × IsWithout realm.pkinit)))
+
+-- By this fault a file with these octets may give no reply to a message: a read of it fails so, or the octets are damaged for the message.
+abbrev pub IsLack : Bytes → (ErrorKind → Type 0) → Bytes → LookupFault → Type 0
+IsLack bytes fails message (Failed kind) = fails kind
+IsLack bytes fails message Damaged = IsDamagedFor bytes message
+IsLack bytes fails message Memory = Unit {0}
+
+-- So it is, or the file's octets aren't known.
+abbrev pub FailsReply : Option Bytes → (ErrorKind → Type 0) → Bytes → LookupFault → Type 0
+FailsReply content fails message fault = (bytes : Bytes) → content ≡ Some bytes → IsLack bytes fails message fault

@@ -12,13 +12,16 @@ IsReadAs said (Ok x) = said ≡ Some x
 IsReadAs said (Err record_fault.Damaged) = said ≡ None
 IsReadAs said (Err record_fault.Memory) = Unit {0}
 
--- What was read in a file is what its octets say. It is refused as damaged only if its octets say so. Or the file fails by such a kind
--- of fault, or memory ran out.
+-- A fault of reading what the octets of a file say: a read fails by this kind of fault, the octets are damaged there, or memory ran out.
+abbrev pub IsFaultAt : {X : Type 0} → (ErrorKind → Type 0) → Result X LookupFault → LookupFault → Type 0
+IsFaultAt fails said (lookup.Failed kind) = fails kind
+IsFaultAt fails said lookup.Damaged = said ≡ Err lookup.Damaged
+IsFaultAt fails said lookup.Memory = Unit {0}
+
+-- What was read in a file is what its octets say, or there is a fault.
 abbrev pub IsSaid : {X : Type 0} → (ErrorKind → Type 0) → Result X LookupFault → Result X LookupFault → Type 0
 IsSaid fails said (Ok x) = said ≡ Ok x
-IsSaid fails said (Err lookup.Damaged) = said ≡ Err lookup.Damaged
-IsSaid fails said (Err (lookup.Failed kind)) = fails kind
-IsSaid fails said (Err lookup.Memory) = Unit {0}
+IsSaid fails said (Err fault) = IsFaultAt fails said fault
 
 -- What the octets of a record say, in a file. A record that says nothing is damaged.
 abbrev pub or_damaged : {X : Type 0} → Option X → Result X LookupFault

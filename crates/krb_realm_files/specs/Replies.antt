@@ -11,18 +11,19 @@ use Rattle.krb_realm_files.specs.Files.{Holds, IsLookOf, realm_said}
 use Rattle.krb_realm_files.specs.declared.realm_parameters.RealmParameters.{RealmParameters}
 use Rattle.krb_kdc.specs.Begins.{IsNoRequest}
 use Rattle.krb_kdc.specs.Seen.{IsTold}
+use Rattle.krb_kdc.specs.Sources.{AsksByCertificate}
 use Rattle.krb_kdc.specs.declared.seen.Seen.{Seen}
-use Rattle.krb_realm_files.specs.Lacks.{IsLacking}
+use Rattle.krb_realm_files.specs.Lacks.{IsDamagedFor}
 use Rattle.krb_realm_files.specs.Means.{AreMeansIn, rows_of}
 use Rattle.krb_realm_files.specs.RefusedPkinit.{refused_rows}
 use Rattle.krb_realm_files.specs.declared.means.PkinitMeans.{PkinitMeans}
 
--- A reply by these means, if logins by certificate are answered by these octets: they are the octets' means, or the reply is one by any
--- means, as that to a request which isn't by certificate is.
+-- A reply, if logins by certificate are answered by these octets: one by any means, as that to a message which doesn't ask by certificate is.
+-- Or the message asks by certificate, and the reply is one by the octets' means.
 abbrev pub ReplyByOctets : Bytes → CallRecord → Bytes → Option Bytes → Type 0
 ReplyByOctets octets call message reply =
     ((means : PkinitMeans) → Replies call (rows_of means) message reply)
-    ⊎ ((means : PkinitMeans) × AreMeansIn octets means × Replies call (rows_of means) message reply)
+    ⊎ (AsksByCertificate message × ((means : PkinitMeans) × AreMeansIn octets means × Replies call (rows_of means) message reply))
 
 -- A reply of a realm that answers no login by certificate, or one by these octets.
 abbrev pub ReplyBy : Option Bytes → CallRecord → Bytes → Option Bytes → Type 0
@@ -49,10 +50,14 @@ RepliesFrom opens content message moment words None = IsNoRequest message
 RepliesFrom {F} opens content message moment words (Some reply) =
     (file : F) × opens file × ((bytes : Bytes) → content file ≡ Some bytes → FileReplies bytes message moment words reply)
 
--- It may be that the file can't be opened, or that a file which was opened can't be read or is damaged.
-abbrev pub MayLack : {F : Type 0} → (F → Type 0) → (ErrorKind → Type 0) → (F → Option Bytes) → (F → ErrorKind → Type 0) → Type 0
-MayLack {F} opens fails content read_fails =
-    ((kind : ErrorKind) × fails kind) ⊎ ((file : F) × opens file × IsLacking (content file) (read_fails file))
+-- A read of the file may fail by some kind of fault, or the file's octets are damaged for the message, or they aren't known.
+abbrev pub IsLacking : Option Bytes → (ErrorKind → Type 0) → Bytes → Type 0
+IsLacking content fails message = (bytes : Bytes) → content ≡ Some bytes → ((kind : ErrorKind) × fails kind) ⊎ IsDamagedFor bytes message
+
+-- It may be that the file can't be opened, or that one which was opened can't be read, or is damaged for the message.
+abbrev pub MayLack : {F : Type 0} → (F → Type 0) → (ErrorKind → Type 0) → (F → Option Bytes) → (F → ErrorKind → Type 0) → Bytes → Type 0
+MayLack {F} opens fails content read_fails message =
+    ((kind : ErrorKind) × fails kind) ⊎ ((file : F) × opens file × IsLacking (content file) (read_fails file) message)
 
 -- An observer saw a message to the realm of a file, and its reply. The realm's name is that of the file, and its accounts
 -- are those of the file, if the file's octets are known.

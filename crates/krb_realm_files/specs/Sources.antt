@@ -3,6 +3,7 @@ use Rattle.std.specs.Prelude.{◌≡◌, Option, None, Some, true, false}
 use Rattle.picky_asn1.specs.Bytes.{Bytes}
 use Rattle.krb_constants.specs.declared.padata_types.TheConstants.{PA_PK_AS_REQ}
 use Rattle.krb_messages.specs.Padata.{padata_in}
+use Rattle.krb_kdc.specs.Sources.{IsByCertificate}
 use Rattle.krb_kdc_exchanges.specs.Rows.{PkinitRows}
 use Rattle.krb_messages.specs.declared.messages.kdc_req.KdcReq.{KdcReq}
 use Rattle.krb_messages.specs.Padata.{first_of}
@@ -16,10 +17,10 @@ abbrev pub file_rows : FilePkinit → PkinitRows
 file_rows (file.Refused own) = refused_rows own.is_offered
 file_rows (file.Means means) = rows_of means
 
--- Logins by certificate are answered by these octets: by their means, or the request has no PA-PK-AS-REQ and they are only offered.
+-- Logins by certificate are answered by these octets: a request by certificate by their means, and to any other they are only offered.
 abbrev pub IsGivenBy : Bytes → KdcReq → FilePkinit → Type 0
 IsGivenBy octets request (file.Refused own) = (own.is_offered ≡ true) × (first_of PA_PK_AS_REQ (padata_in request) ≡ None)
-IsGivenBy octets request (file.Means means) = AreMeansIn octets means
+IsGivenBy octets request (file.Means means) = IsByCertificate request × AreMeansIn octets means
 
 -- They are answered by the octets that the realm has, and by none if it has none.
 abbrev pub IsGiven : Option Bytes → KdcReq → FilePkinit → Type 0

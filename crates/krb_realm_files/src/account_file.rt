@@ -4,7 +4,7 @@ ghost use Rattle.cdb.specs.Find.{looked_up};
 ghost use Rattle.krb_realm_accounts.specs.Packed.{fit, packed};
 ghost use Rattle.krb_realm_accounts.specs.declared.packed.TheConstants.{BLOCK_ROOM};
 ghost use Rattle.krb_realm_files.specs.declared.format.TheConstants.{RECORD_ROOM};
-ghost use Rattle.krb_realm_files.specs.Files.{IsFallible, account_found, account_front, account_said, fault_of, realm_found, realm_front, realm_said};
+ghost use Rattle.krb_realm_files.specs.Files.{FailsRealm, account_found, account_front, account_said, fault_of, realm_found, realm_front, realm_said};
 ghost use Rattle.krb_realm_files.specs.Reading.{IsSaid};
 ghost use Rattle.krb_kdc.specs.Faults.{MayFail};
 
@@ -31,12 +31,12 @@ pub struct AccountFile<F> {
 }
 
 impl<F: ReadAt> Lookup for AccountFile<F> {
-    ghost use Rattle.krb_realm_files.specs.Files.{Holds, IsFallible};
+    ghost use Rattle.krb_realm_files.specs.Files.{FailsAccount, Holds};
     ghost use Rattle.krb_realm_files.specs.Held.{account_file};
 
     ghost holds = { λ s. Holds (F.content (account_file s)) };
 
-    ghost may_fail = { λ s. IsFallible (F.content (account_file s)) (F.fails (account_file s)) };
+    ghost may_fail = { λ s. FailsAccount (F.content (account_file s)) (F.fails (account_file s)) };
 
     fn account(
         &self,
@@ -51,7 +51,7 @@ impl<F: ReadAt> Lookup for AccountFile<F> {
 /// record or is damaged there, as `Failed` if the file can't be read, and as `Memory` if memory runs out.
 pub fn realm_of<F: ReadAt>(alloc: Global, file: &F) -> Result<RealmParameters, LookupFault>
     ensures said { (bytes : List ℕ) → F.content file.now ≡ Some bytes → IsSaid (F.fails file.now) (realm_said bytes) result }
-    ensures fault { IfErr result (MayFail (IsFallible (F.content file.now) (F.fails file.now))) }
+    ensures fault { IfErr result (MayFail (FailsRealm (F.content file.now) (F.fails file.now))) }
 {
     let mut room = [0; RECORD_ROOM];
     realm_within(alloc, file, &[REALM_KEY], &mut room)

@@ -3,9 +3,11 @@ ghost use Rattle.std.specs.Prelude.{◌≡◌, ◌⊎◌, ℕ, List, Some, IfErr
 ghost use Rattle.krb_messages.specs.RandomBytes.{AreEnoughForReply};
 ghost use Rattle.krb_realm_accounts.specs.Accounts.{Look};
 ghost use Rattle.krb_kdc.specs.Answers.{IsAnswerBy, MayRefuse};
+ghost use Rattle.krb_kdc.specs.Failing.{FailsFor};
 ghost use Rattle.krb_kdc.specs.Seen.{IsTold};
-ghost use Rattle.krb_realm_files.specs.Files.{Holds, IsFallible};
-ghost use Rattle.krb_realm_files.specs.Lacks.{IsLacking, IsWithout};
+ghost use Rattle.krb_kdc.specs.Sources.{AsksByCertificate};
+ghost use Rattle.krb_realm_files.specs.Files.{FailsAccount, Holds};
+ghost use Rattle.krb_realm_files.specs.Lacks.{FailsMeans, FailsReply};
 ghost use Rattle.krb_realm_files.specs.Replies.{FileReplies, IsToldFrom, ReplyByRealm};
 
 use crate::realm_source::RealmSource;
@@ -21,8 +23,9 @@ use std::alloc::Global;
 /// which the first 128 are used.
 ///
 /// It refuses as `Unreadable` only if the message is no request. If the bytes begin none, nothing of the file is read. It refuses as
-/// `Fault` if the realm's record or an account can't be read, if a request by certificate can't be answered by the octets of the record,
-/// or if memory runs out. Then there is no reply, and no KRB-ERROR takes its place.
+/// `Failed` only if a read failed, and as `Damaged` only if the octets are damaged for this message: at the realm's record, at an account
+/// that it involves, or, if it asks by certificate, at what such a login is answered by. It refuses as `Memory` if memory runs out. Then
+/// there is no reply, and no KRB-ERROR takes its place.
 ///
 /// The observer sees each request that has a reply.
 pub fn answer_from<F: ReadAt, V: Observer>(
@@ -36,7 +39,7 @@ pub fn answer_from<F: ReadAt, V: Observer>(
     requires { AreEnoughForReply words.now }
     ensures answer { (bytes : List ℕ) → F.content accounts.now.file ≡ Some bytes
         → IfOk result (λ reply. FileReplies bytes message.now moment words.now reply.items) }
-    ensures refusal { IfErr result (MayRefuse (IsLacking (F.content accounts.now.file) (F.fails accounts.now.file)) message.now) }
+    ensures refusal { IfErr result (MayRefuse (FailsReply (F.content accounts.now.file) (F.fails accounts.now.file) message.now) message.now) }
     ensures told { IfOk result (λ reply. IsToldFrom V.sees (F.content accounts.now.file) message.now observer.old observer.new reply.items) }
 {
     if !begins_request(message) {
@@ -61,7 +64,10 @@ fn answer_for<F: ReadAt, V: Observer>(
     requires { AreEnoughForReply words.now }
     ensures answer { (all : Look) → Holds (F.content accounts.now.file) all
         → IsAnswerBy (ReplyByRealm realm.now all message.now moment words.now) result }
-    ensures refusal { IfErr result (MayRefuse (IsFallible (F.content accounts.now.file) (F.fails accounts.now.file) ⊎ IsWithout realm.now) message.now) }
+    ensures refusal { IfErr result (MayRefuse
+        (λ fault. FailsFor (Holds (F.content accounts.now.file)) (FailsAccount (F.content accounts.now.file) (F.fails accounts.now.file)) realm.now.name message.now fault
+        ⊎ (AsksByCertificate message.now × FailsMeans realm.now.pkinit fault))
+        message.now) }
     ensures told { IfOk result (λ reply. IsTold V.sees (Holds (F.content accounts.now.file)) realm.now.name message.now observer.old observer.new reply.items) }
 {
     let call = LookupCall {

@@ -41,7 +41,7 @@ impl<'a, O: Opens, T: FaultReporter> FileRealm<'a, O, T> {
             (λ refusal. refusal ≡ AnswerRefusal.Unreadable → RepliesFrom (O.opens self.now.accounts.now) O.File.content message.now moment words.now None) }
         ensures memory { IfErr result (λ refusal. refusal ≡ AnswerRefusal.Memory → BeginsRequest message.now) }
         ensures accounts { IfErr result (λ refusal. refusal ≡ AnswerRefusal.Accounts
-            → MayLack (O.opens self.now.accounts.now) (O.fails self.now.accounts.now) O.File.content O.File.fails) }
+            → MayLack (O.opens self.now.accounts.now) (O.fails self.now.accounts.now) O.File.content O.File.fails message.now) }
         ensures told { IfOk result (λ reply. (file : O.File) × O.opens self.now.accounts.now file
             × IsToldFrom V.sees (O.File.content file) message.now observer.old observer.new reply.items) }
     {

@@ -1,12 +1,13 @@
 //! What gives a realm of a file what it judges a request by certificate by.
-ghost use Rattle.std.specs.Prelude.{◌≡◌, MatchResult};
+ghost use Rattle.std.specs.Prelude.{◌≡◌, Some, MatchResult};
 ghost use Rattle.std.specs.Option.{is_some};
 ghost use Rattle.krb_constants.specs.declared.padata_types.TheConstants.{PA_PK_AS_REQ};
 ghost use Rattle.krb_kdc.specs.Faults.{MayFail};
+ghost use Rattle.krb_kdc.specs.Sources.{IsByCertificate};
 ghost use Rattle.krb_messages.specs.Padata.{padata_in};
 ghost use Rattle.krb_messages.specs.Padata.{first_of};
 ghost use Rattle.krb_realm_files.specs.Faults.{lookup_fault_of};
-ghost use Rattle.krb_realm_files.specs.Lacks.{AreUnusable};
+ghost use Rattle.krb_realm_files.specs.Lacks.{FailsMeans};
 ghost use Rattle.krb_realm_files.specs.Sources.{IsGivenBy};
 
 use crate::file_pkinit::FilePkinit;
@@ -28,14 +29,14 @@ pub(crate) struct RealmSource<'a> {
 }
 
 impl<'a> PkinitSource for RealmSource<'a> {
-    ghost use Rattle.krb_realm_files.specs.Lacks.{IsWithout};
+    ghost use Rattle.krb_realm_files.specs.Lacks.{FailsMeans};
     ghost use Rattle.krb_realm_files.specs.Sources.{IsGiven};
 
     type Given = FilePkinit;
 
     ghost gives = { λ own. IsGiven own.realm.now.pkinit };
 
-    ghost may_fail = { λ own. IsWithout own.realm.now };
+    ghost may_fail = { λ own. FailsMeans own.realm.now.pkinit };
 
     fn pkinit_for(&self, alloc: Global, request: &KdcReq) -> Result<FilePkinit, LookupFault> {
         match &self.realm.pkinit {
@@ -47,9 +48,9 @@ impl<'a> PkinitSource for RealmSource<'a> {
 
 // Returns what judges this request, where logins by certificate are answered by these octets.
 fn given_by(alloc: Global, octets: &[u8], request: &KdcReq) -> Result<FilePkinit, LookupFault>
-    ensures { MatchResult result (IsGivenBy octets.now request.now) (MayFail (AreUnusable octets.now)) }
+    ensures { MatchResult result (IsGivenBy octets.now request.now) (MayFail (λ fault. IsByCertificate request.now × FailsMeans (Some octets.now) fault)) }
 {
-    if !has_pk_as_req(request) {
+    if !is_by_certificate(request) {
         return Ok(FilePkinit::Refused(RefusedPkinit { is_offered: true }));
     }
     match means_in(alloc, octets) {
@@ -58,8 +59,8 @@ fn given_by(alloc: Global, octets: &[u8], request: &KdcReq) -> Result<FilePkinit
     }
 }
 
-// Whether a request has PA-PK-AS-REQ (RFC 4556, section 3.2.1).
-fn has_pk_as_req(request: &KdcReq) -> bool
+// Whether a request is by certificate: it has PA-PK-AS-REQ (RFC 4556, section 3.2.1).
+fn is_by_certificate(request: &KdcReq) -> bool
     ensures { result ≡ is_some (first_of PA_PK_AS_REQ (padata_in request.now)) }
 {
     first_in(request, PA_PK_AS_REQ).is_some()

@@ -21,7 +21,7 @@ impl Responder for Toy {
 
     ghost may_want_memory = { λ _ message. 0 < length message };
 
-    ghost may_lack_accounts = { λ _. ⊥ };
+    ghost may_lack_accounts = { λ _ _. ⊥ };
 
     fn answer(
         &self,
@@ -113,7 +113,7 @@ impl Responder for Unread {
 
     ghost may_want_memory = { λ _ _. ⊥ };
 
-    ghost may_lack_accounts = { λ _. ⊤ };
+    ghost may_lack_accounts = { λ _ _. ⊤ };
 
     fn answer(
         &self,

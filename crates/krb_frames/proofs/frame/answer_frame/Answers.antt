@@ -59,9 +59,9 @@ returns-in-Err-Accounts-clause-refusals g c = c.in-Err-Accounts.ensures.accounts
 
 pub returns-clause-refusals : goal.returns-clause-refusals
 returns-clause-refusals g c =
-    of_written (g.A.Responder.replies c.args.responder.now) (g.A.Responder.may_lack_accounts c.args.responder.now) c.write_frame.result _ _ _ c.write_frame.ensures.written
+    of_written (g.A.Responder.replies c.args.responder.now) (g.A.Responder.may_lack_accounts c.args.responder.now c.args.message.now) c.write_frame.result _ _ _ c.write_frame.ensures.written
 
 pub returns-in_err-words-clause-refusals : goal.returns-in_err-words-clause-refusals
 returns-in_err-words-clause-refusals g c =
     let r = err_from_is_err_and c.from_residual.result c.from_residual.ensures.1 in
-    rw (r.1, r.2) (of_words (g.A.Responder.replies c.args.responder.now) (g.A.Responder.may_lack_accounts c.args.responder.now) c.in_err-words.field-0.0 c.in_err-words.ensures.faults)
+    rw (r.1, r.2) (of_words (g.A.Responder.replies c.args.responder.now) (g.A.Responder.may_lack_accounts c.args.responder.now c.args.message.now) c.in_err-words.field-0.0 c.in_err-words.ensures.faults)

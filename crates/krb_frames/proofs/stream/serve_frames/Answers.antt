@@ -1,5 +1,6 @@
 use Rattle.std.proofs.Common.{rules, ◌∙◌}
 use Rattle.std.proofs.lemmas.Result.{err_from_is_err_and}
+use Rattle.krb_frames.specs.Serving.{MayLackAccounts}
 use Rattle.krb_frames.proofs.Answering.{accounts, no_request, of_read}
 use Rattle.krb_frames.proofs.Counts.{read_kept, write_kept}
 use Rattle.krb_frames.proofs.Progress.{Whole-same, begins, ended, stopped_at_front, stopped_at_moment, stopped_at_step, goes}
@@ -80,22 +81,26 @@ pub returns-in_err-message-clause-no_request : goal.returns-in_err-message-claus
 returns-in_err-message-clause-no_request g c =
     let r = err_from_is_err_and c.from_residual.result c.from_residual.ensures.1 in
     let replies = g.A.Responder.replies c.args.responder.now in
-    let lacks = g.A.Responder.may_lack_accounts c.args.responder.now in
+    let lacks = MayLackAccounts (g.A.Responder.may_lack_accounts c.args.responder.now) in
     rw (r.1, r.2) (no_request replies lacks c.in_err-message.field-0.0 (of_read replies lacks c.in_err-message.field-0.0 c.in_err-message.ensures.faults))
 
 pub returns-in_err-answer_frame-clause-no_request : goal.returns-in_err-answer_frame-clause-no_request
 returns-in_err-answer_frame-clause-no_request g c =
     let r = err_from_is_err_and c.from_residual-in_err-answer_frame.result c.from_residual-in_err-answer_frame.ensures.1 in
-    rw (r.1, r.2) (no_request (g.A.Responder.replies c.args.responder.now) (g.A.Responder.may_lack_accounts c.args.responder.now) c.in_err-answer_frame.field-0.0 c.in_err-answer_frame.ensures.refusals)
+    rw (r.1, r.2) (no_request (g.A.Responder.replies c.args.responder.now) (g.A.Responder.may_lack_accounts c.args.responder.now c.deref.result.now) c.in_err-answer_frame.field-0.0 c.in_err-answer_frame.ensures.refusals)
 
 pub returns-in_err-message-clause-accounts : goal.returns-in_err-message-clause-accounts
 returns-in_err-message-clause-accounts g c =
     let r = err_from_is_err_and c.from_residual.result c.from_residual.ensures.1 in
     let replies = g.A.Responder.replies c.args.responder.now in
-    let lacks = g.A.Responder.may_lack_accounts c.args.responder.now in
+    let lacks = MayLackAccounts (g.A.Responder.may_lack_accounts c.args.responder.now) in
     rw (r.1, r.2) (accounts replies lacks c.in_err-message.field-0.0 (of_read replies lacks c.in_err-message.field-0.0 c.in_err-message.ensures.faults))
 
 pub returns-in_err-answer_frame-clause-accounts : goal.returns-in_err-answer_frame-clause-accounts
 returns-in_err-answer_frame-clause-accounts g c =
     let r = err_from_is_err_and c.from_residual-in_err-answer_frame.result c.from_residual-in_err-answer_frame.ensures.1 in
-    rw (r.1, r.2) (accounts (g.A.Responder.replies c.args.responder.now) (g.A.Responder.may_lack_accounts c.args.responder.now) c.in_err-answer_frame.field-0.0 c.in_err-answer_frame.ensures.refusals)
+    rw (r.1, r.2) (λ e. (
+      c.deref.result.now,
+      accounts (g.A.Responder.replies c.args.responder.now) (g.A.Responder.may_lack_accounts c.args.responder.now c.deref.result.now) c.in_err-answer_frame.field-0.0
+          c.in_err-answer_frame.ensures.refusals e,
+    ))

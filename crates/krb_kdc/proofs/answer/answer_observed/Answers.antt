@@ -1,8 +1,10 @@
-use Rattle.std.proofs.Common.{inl, sym, ◌∙◌}
+use Rattle.std.proofs.Common.{◌⊎◌, sym, ◌∙◌}
 use Rattle.krb_kdc.specs.Calls.{call_with}
-use Rattle.krb_kdc.specs.Sources.{RepliesBy}
+use Rattle.krb_kdc.specs.Failing.{FailsFor}
+use Rattle.krb_kdc.specs.Sources.{AsksByCertificate, RepliesBy}
 use Rattle.krb_kdc.proofs.Answered.{by_given, by_tgs, unread}
-use Rattle.krb_kdc.proofs.Refused.{fails_more, no_answer, refused}
+use Rattle.krb_kdc.proofs.Failing.{as_failed, tgs_failed}
+use Rattle.krb_kdc.proofs.Refused.{no_answer, refused}
 use Rattle.krb_kdc.proofs.answer.answer_observed.Goals as goal
 
 pub returns-then-not-begins_request-clause-answer : goal.returns-then-not-begins_request-clause-answer
@@ -36,16 +38,22 @@ returns-in_err-reply-clause-answer g c = λ all known. no_answer (RepliesBy g.S.
 
 pub returns-in_err-reply-clause-refusal : goal.returns-in_err-reply-clause-refusal
 returns-in_err-reply-clause-refusal g c =
-    refused _ c.args.message.now _ c.from_residual-in_err-reply.result c.from_residual-in_err-reply.ensures.1
-    (sym c.begins_request.ensures.begins ∙ c.if-not-begins_request.false) c.in_err-reply.ensures.fault
+    refused (λ own. FailsFor (g.L.Lookup.holds c.args.lookup.now) (g.L.Lookup.may_fail c.args.lookup.now) c.args.call.now.realm.now c.args.message.now own
+    ⊎ (AsksByCertificate c.args.message.now × g.S.PkinitSource.may_fail c.args.source.now own)) c.args.message.now _ c.from_residual-in_err-reply.result c.from_residual-in_err-reply.ensures.1
+    (sym c.begins_request.ensures.begins ∙ c.if-not-begins_request.false)
+    (as_failed (g.L.Lookup.holds c.args.lookup.now) (g.L.Lookup.may_fail c.args.lookup.now) (g.S.PkinitSource.may_fail c.args.source.now) c.args.call.now c.args.message.now c.in-Some.request _
+    (rw c.in-Some.is at c.in_ok-request.ensures) c.in_err-reply.ensures.fault)
 
 pub returns-in_err-reply-2-clause-answer : goal.returns-in_err-reply-2-clause-answer
 returns-in_err-reply-2-clause-answer g c = λ all known. no_answer (RepliesBy g.S.Given.Pkinit.rows (g.S.PkinitSource.gives c.args.source.now) (call_with c.args.call.now all) c.args.message.now) _ c.from_residual-in_err-reply-2.result c.from_residual-in_err-reply-2.ensures.1
 
 pub returns-in_err-reply-2-clause-refusal : goal.returns-in_err-reply-2-clause-refusal
 returns-in_err-reply-2-clause-refusal g c =
-    refused _ c.args.message.now _ c.from_residual-in_err-reply-2.result c.from_residual-in_err-reply-2.ensures.1
-    (sym c.begins_request.ensures.begins ∙ c.if-not-begins_request.false) (fails_more inl _ c.in_err-reply-2.ensures.fault)
+    refused (λ own. FailsFor (g.L.Lookup.holds c.args.lookup.now) (g.L.Lookup.may_fail c.args.lookup.now) c.args.call.now.realm.now c.args.message.now own
+    ⊎ (AsksByCertificate c.args.message.now × g.S.PkinitSource.may_fail c.args.source.now own)) c.args.message.now _ c.from_residual-in_err-reply-2.result c.from_residual-in_err-reply-2.ensures.1
+    (sym c.begins_request.ensures.begins ∙ c.if-not-begins_request.false)
+    (tgs_failed (g.L.Lookup.holds c.args.lookup.now) (g.L.Lookup.may_fail c.args.lookup.now) (g.S.PkinitSource.may_fail c.args.source.now) c.args.call.now c.args.message.now c.in-Some-2.request _
+    (rw c.in-Some-2.is at c.in_ok-request-2.ensures) c.in_err-reply-2.ensures.fault)
 
 pub returns-in-Some-clause-told : goal.returns-in-Some-clause-told
 returns-in-Some-clause-told g c = c.in_ok-reply.ensures.told c.args.message.now (rw c.in-Some.is at c.in_ok-request.ensures)

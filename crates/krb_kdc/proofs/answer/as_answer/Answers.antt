@@ -1,7 +1,9 @@
-use Rattle.std.proofs.Common.{◌⊎◌, inl, inr}
+use Rattle.std.proofs.Common.{◌⊎◌}
 use Rattle.krb_kdc_exchanges.specs.Call.{call_of}
+use Rattle.krb_kdc.specs.Failing.{FailsAs}
+use Rattle.krb_kdc.specs.Sources.{IsByCertificate}
 use Rattle.krb_kdc.proofs.Answered.{as_replied}
-use Rattle.krb_kdc.proofs.Refused.{failed, fails_more}
+use Rattle.krb_kdc.proofs.Refused.{failed, of_first, of_second}
 use Rattle.krb_kdc.proofs.Told.{told}
 use Rattle.krb_kdc.proofs.answer.as_answer.Goals as goal
 
@@ -15,13 +17,17 @@ returns-clause-answer g c = λ all known.
 
 pub returns-in_err-pkinit-clause-fault : goal.returns-in_err-pkinit-clause-fault
 returns-in_err-pkinit-clause-fault g c =
-    failed (g.L.Lookup.may_fail c.args.lookup.now ⊎ g.S.PkinitSource.may_fail c.args.source.now) _ c.from_residual.result c.from_residual.ensures.1
-    (fails_more inr _ c.in_err-pkinit.ensures)
+    failed (λ own. FailsAs (g.L.Lookup.may_fail c.args.lookup.now) c.args.request.now own ⊎ (IsByCertificate c.args.request.now × g.S.PkinitSource.may_fail c.args.source.now own)) _
+    c.from_residual.result c.from_residual.ensures.1
+    (of_second (FailsAs (g.L.Lookup.may_fail c.args.lookup.now) c.args.request.now)
+    (λ own. IsByCertificate c.args.request.now × g.S.PkinitSource.may_fail c.args.source.now own) _ c.in_err-pkinit.ensures)
 
 pub returns-in_err-few-clause-fault : goal.returns-in_err-few-clause-fault
 returns-in_err-few-clause-fault g c =
-    failed (g.L.Lookup.may_fail c.args.lookup.now ⊎ g.S.PkinitSource.may_fail c.args.source.now) _ c.from_residual-in_err-few.result c.from_residual-in_err-few.ensures.1
-    (fails_more inl _ c.in_err-few.ensures.fault)
+    failed (λ own. FailsAs (g.L.Lookup.may_fail c.args.lookup.now) c.args.request.now own ⊎ (IsByCertificate c.args.request.now × g.S.PkinitSource.may_fail c.args.source.now own)) _
+    c.from_residual-in_err-few.result c.from_residual-in_err-few.ensures.1
+    (of_first (FailsAs (g.L.Lookup.may_fail c.args.lookup.now) c.args.request.now)
+    (λ own. IsByCertificate c.args.request.now × g.S.PkinitSource.may_fail c.args.source.now own) _ c.in_err-few.ensures.fault)
 
 pub returns-clause-told : goal.returns-clause-told
 returns-clause-told g c = λ message read.

@@ -16,4 +16,4 @@ returns-in_err-answered g c =
     let new = devices (device (g.K.Source.left c.serve_at.new.words_reader) (g.K.Source.failed c.serve_at.new.words_reader)) (device (g.R.Source.left c.serve_at.new.reader) (g.R.Source.failed c.serve_at.new.reader)) (device (g.W.Sink.written c.serve_at.new.writer) (g.W.Sink.failed c.serve_at.new.writer)) in
     exit_stopped ((c.serve_at.new.words_reader ≡ c.args.words_reader.now) × (c.serve_at.new.reader ≡ c.args.reader.now) × (c.serve_at.new.writer ≡ c.args.writer.now))
     c.args.settings.now c.args.moment old new c.in-Ok.realm c.in-Ok.ensures c.in_err-answered.field-0.0 c.from_residual.result c.from_residual.ensures.1
-    (c.in_err-answered.ensures.output, c.in_err-answered.ensures.failures) c.in_err-answered.ensures.accounts
+    (c.in_err-answered.ensures.output, c.in_err-answered.ensures.failures) (λ e. (c.in_err-answered.ensures.accounts e).1)
