@@ -65,6 +65,14 @@ module _ (given : LookupCall) (all : Look) (few : AccountMap) where
       → (tgs_reply own asked).gives (Some reply) → (tgs_reply whole asked).gives (Some reply)
   tgs_replied own same reply asked knows x = further_replied asked knows (Some reply) (subst (λ call. (tgs_reply call asked).gives (Some reply)) same x)
 
+-- a reply by the few is one by some accounts
+module _ (given : LookupCall) (few : AccountMap) (own : CallRecord) (same : own ≡ call_with given (look_in few)) (asked : KdcReq) (reply : List ℕ) where
+  pub as_by_few : (rows : PkinitRows) → (as_reply_by own rows asked).gives (Some reply) → (as_reply_by (call_with given (look_in few)) rows asked).gives (Some reply)
+  as_by_few rows x = subst (λ call. (as_reply_by call rows asked).gives (Some reply)) same x
+
+  pub tgs_by_few : (tgs_reply own asked).gives (Some reply) → (tgs_reply (call_with given (look_in few)) asked).gives (Some reply)
+  tgs_by_few x = subst (λ call. (tgs_reply call asked).gives (Some reply)) same x
+
 -- the reply to the message, by what is given for the request that it is
 module _ {P : Type 0} (rows : P → PkinitRows) (gives : KdcReq → P → Type 0) (call : CallRecord) (message : List ℕ) where
   pub by_given : (asked : KdcReq) (reply : List ℕ) → IsAsReq message asked → (pkinit : P) × gives asked pkinit × (as_reply_by call (rows pkinit) asked).gives (Some reply)

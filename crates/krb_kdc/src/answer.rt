@@ -74,6 +74,9 @@ pub fn answer_observed<L: Lookup, S: PkinitSource, O: Observer>(
 ) -> Result<Vec<u8>, LookupRefusal>
     requires { AreEnoughForReply call.now.words.now }
     ensures answer { (all : Look) → L.holds lookup.now all → IsAnswerBy (RepliesBy S.Given.rows (S.gives source.now) (call_with call.now all) message.now) result }
+
+    // Whatever the look-up holds, the reply is one of the realm with some accounts.
+    ensures some { IfOk result (λ reply. (all : Look) × RepliesBy S.Given.rows (S.gives source.now) (call_with call.now all) message.now (Some reply.items)) }
     ensures refusal { IfErr result (MayRefuse
         (λ fault. FailsFor (L.holds lookup.now) (L.may_fail lookup.now) call.now.realm.now message.now fault ⊎ (AsksByCertificate message.now × S.may_fail source.now fault))
         message.now) }
@@ -111,6 +114,8 @@ fn as_answer<L: Lookup, S: PkinitSource, O: Observer>(
     requires { AreEnoughForReply call.now.words.now }
     ensures answer { (all : Look) → L.holds lookup.now all
         → IfOk result (λ reply. (pkinit : S.Given) × S.gives source.now request.now pkinit × (as_reply_by (call_with call.now all) (S.Given.rows pkinit) request.now).gives (Some reply.items)) }
+    ensures some { IfOk result (λ reply. (all : Look)
+        × ((pkinit : S.Given) × S.gives source.now request.now pkinit × (as_reply_by (call_with call.now all) (S.Given.rows pkinit) request.now).gives (Some reply.items))) }
     ensures fault { IfErr result (MayFail (λ fault. FailsAs (L.may_fail lookup.now) request.now fault ⊎ (IsByCertificate request.now × S.may_fail source.now fault))) }
     ensures told { (message : Bytes) → IsAsReq message request.now
         → IfOk result (λ reply. IsTold O.sees (L.holds lookup.now) call.now.realm.now message observer.old observer.new reply.items) }
@@ -132,6 +137,7 @@ fn tgs_answer<L: Lookup, O: Observer>(
 ) -> Result<Vec<u8>, LookupFault>
     requires { AreEnoughForReply call.now.words.now }
     ensures answer { (all : Look) → L.holds lookup.now all → IfOk result (λ reply. (tgs_reply (call_with call.now all) request.now).gives (Some reply.items)) }
+    ensures some { IfOk result (λ reply. (all : Look) × (tgs_reply (call_with call.now all) request.now).gives (Some reply.items)) }
     ensures fault { IfErr result (MayFail (FailsTgs (L.holds lookup.now) (L.may_fail lookup.now) call.now request.now)) }
     ensures told { (message : Bytes) → IsTgsReq message request.now
         → IfOk result (λ reply. IsTold O.sees (L.holds lookup.now) call.now.realm.now message observer.old observer.new reply.items) }

@@ -8,8 +8,9 @@
 //!
 //! A reply of `answer_by` is that of the realm with all accounts that the `Lookup` holds. `Unreadable` is returned only for a message that
 //! is no request, and `Fault` only for bytes that begin one (`BeginsRequest`). An account that can't be read is a fault, and neither a
-//! missing account nor a KRB-ERROR. Accounts in memory can always be read. Each request has a reply (law `has_reply`), by `one_reply` of
-//! `krb_kdc_exchanges` exactly one. What an `Observer` sees is of the message, of its reply and of the accounts (`IsTold`).
+//! missing account nor a KRB-ERROR. It stops only a message that involves it (`FailsFor`). What judges requests by certificate fails only
+//! at one that asks so (`AsksByCertificate`). Accounts in memory can always be read. Each request has a reply (law `has_reply`), by
+//! `one_reply` of `krb_kdc_exchanges` exactly one. What an `Observer` sees is of the message, of its reply and of the accounts (`IsTold`).
 #![tactic(auto)]
 
 mod always;

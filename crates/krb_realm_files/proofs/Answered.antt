@@ -9,7 +9,7 @@ use Rattle.krb_kdc.specs.declared.seen.Seen.{Seen}
 use Rattle.krb_kdc.specs.declared.fault.LookupRefusal.{LookupRefusal}
 use Rattle.krb_realm_files.specs.Files.{Holds, IsLookOf, realm_said}
 use Rattle.krb_realm_files.specs.declared.realm_parameters.RealmParameters.{RealmParameters}
-use Rattle.krb_realm_files.specs.Replies.{FileReplies, IsToldFrom, ReplyByRealm}
+use Rattle.krb_realm_files.specs.Replies.{FileReplies, IsRealmReply, IsToldFrom, ReplyByRealm}
 
 -- A reply of the realm that the file says, with any accounts that the file may have, is the file's.
 pub replied : (bytes message : List ℕ) (moment : ℕ) (words : List ℕ) (realm : RealmParameters) (result : Result (Vec ℕ Global) LookupRefusal)
@@ -17,6 +17,12 @@ pub replied : (bytes message : List ℕ) (moment : ℕ) (words : List ℕ) (real
     → IfOk result (λ reply. FileReplies bytes message moment words reply.items)
 replied bytes message moment words realm (Ok reply) is of = (realm, is, of)
 replied bytes message moment words realm (Err refusal) is of = tt
+
+-- A reply of the realm that was read is one of some realm.
+pub of_some : (message : List ℕ) (moment : ℕ) (words : List ℕ) (realm : RealmParameters) (result : Result (Vec ℕ Global) LookupRefusal)
+    → IfOk result (λ reply. (all : Look) × ReplyByRealm realm all message moment words (Some reply.items)) → IfOk result (λ reply. IsRealmReply message moment words reply.items)
+of_some message moment words realm (Ok reply) is = (realm, is)
+of_some message moment words realm (Err refusal) is = tt
 
 -- What an observer saw of the realm that the file says, it saw of the file.
 pub told_from : {V : Type 0} (sees : V → Seen → V → Type 0) (content : Option (List ℕ)) (message : List ℕ) (old new : V) (realm : RealmParameters) (result : Result (Vec ℕ Global) LookupRefusal)

@@ -1,6 +1,6 @@
 -- A reply by what is given for the request that was read is a reply of the file's realm.
 use Rattle.std.proofs.Common.{◌≡◌, ◌⊎◌, ℕ, List, None, Option, Some, Result, Ok, Err, refl, inl, inr, sym, subst}
-use Rattle.std.specs.Prelude.{Vec, MatchResult}
+use Rattle.std.specs.Prelude.{Vec, IfOk, MatchResult}
 use Rattle.std.specs.Global.{Global}
 use Rattle.krb_realm_accounts.specs.Accounts.{Look}
 use Rattle.krb_kdc.specs.Answers.{IsAnswerBy}
@@ -82,3 +82,12 @@ pub by_realm : (realm : RealmParameters) (all : Look) (message : List ℕ) (mome
     → IsAnswerBy (ReplyByRealm realm all message moment words) result
 by_realm realm all message moment words =
     answered_by (record { realm = realm.name; settings = realm.settings; look = all; moment = moment; words = words }) message realm.pkinit
+
+-- A reply by some accounts.
+pub some_realm : (realm : RealmParameters) (message : List ℕ) (moment : ℕ) (words : List ℕ) (result : Result (Vec ℕ Global) LookupRefusal)
+    → IfOk result (λ reply. (all : Look)
+    × RepliesBy file_rows (IsGiven realm.pkinit) (record { realm = realm.name; settings = realm.settings; look = all; moment = moment; words = words }) message (Some reply.items))
+    → IfOk result (λ reply. (all : Look) × ReplyByRealm realm all message moment words (Some reply.items))
+some_realm realm message moment words (Ok reply) (all, x) =
+    (all, by_given (record { realm = realm.name; settings = realm.settings; look = all; moment = moment; words = words }) message realm.pkinit (Some reply.items) x)
+some_realm realm message moment words (Err refusal) x = tt

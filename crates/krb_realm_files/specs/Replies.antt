@@ -43,12 +43,17 @@ FileReplies bytes message moment words reply =
     (realm : RealmParameters) × (realm_said bytes ≡ Ok realm)
     × ((all : Look) → IsLookOf bytes all → ReplyByRealm realm all message moment words (Some reply))
 
--- A reply to a message at a moment, with random bytes: there is one file that may have been opened, and if its octets are known, the reply
--- is that of their realm. There is none only if the message is no request.
+-- A reply to a message at a moment, with random bytes, of some realm with some accounts.
+abbrev pub IsRealmReply : Bytes → Micros → Random → Bytes → Type 0
+IsRealmReply message moment words reply = (realm : RealmParameters) × (all : Look) × ReplyByRealm realm all message moment words (Some reply)
+
+-- A reply to a message at a moment, with random bytes: it is that of some realm, and there is one file that may have been opened. If the
+-- file's octets are known, the reply is that of their realm. There is none only if the message is no request.
 abbrev pub RepliesFrom : {F : Type 0} → (F → Type 0) → (F → Option Bytes) → Bytes → Micros → Random → Option Bytes → Type 0
 RepliesFrom opens content message moment words None = IsNoRequest message
 RepliesFrom {F} opens content message moment words (Some reply) =
-    (file : F) × opens file × ((bytes : Bytes) → content file ≡ Some bytes → FileReplies bytes message moment words reply)
+    IsRealmReply message moment words reply
+    × ((file : F) × opens file × ((bytes : Bytes) → content file ≡ Some bytes → FileReplies bytes message moment words reply))
 
 -- A read of the file may fail by some kind of fault, or the file's octets are damaged for the message, or they aren't known.
 abbrev pub IsLacking : Option Bytes → (ErrorKind → Type 0) → Bytes → Type 0

@@ -8,7 +8,7 @@ ghost use Rattle.krb_kdc.specs.Seen.{IsTold};
 ghost use Rattle.krb_kdc.specs.Sources.{AsksByCertificate};
 ghost use Rattle.krb_realm_files.specs.Files.{FailsAccount, Holds};
 ghost use Rattle.krb_realm_files.specs.Lacks.{FailsMeans, FailsReply};
-ghost use Rattle.krb_realm_files.specs.Replies.{FileReplies, IsToldFrom, ReplyByRealm};
+ghost use Rattle.krb_realm_files.specs.Replies.{FileReplies, IsRealmReply, IsToldFrom, ReplyByRealm};
 
 use crate::realm_source::RealmSource;
 use crate::{AccountFile, RealmParameters, realm_of};
@@ -39,6 +39,9 @@ pub fn answer_from<F: ReadAt, V: Observer>(
     requires { AreEnoughForReply words.now }
     ensures answer { (bytes : List ℕ) → F.content accounts.now.file ≡ Some bytes
         → IfOk result (λ reply. FileReplies bytes message.now moment words.now reply.items) }
+
+    // Whatever the file has, the reply is one of some realm with some accounts.
+    ensures some { IfOk result (λ reply. IsRealmReply message.now moment words.now reply.items) }
     ensures refusal { IfErr result (MayRefuse (FailsReply (F.content accounts.now.file) (F.fails accounts.now.file) message.now) message.now) }
     ensures told { IfOk result (λ reply. IsToldFrom V.sees (F.content accounts.now.file) message.now observer.old observer.new reply.items) }
 {
@@ -64,6 +67,7 @@ fn answer_for<F: ReadAt, V: Observer>(
     requires { AreEnoughForReply words.now }
     ensures answer { (all : Look) → Holds (F.content accounts.now.file) all
         → IsAnswerBy (ReplyByRealm realm.now all message.now moment words.now) result }
+    ensures some { IfOk result (λ reply. (all : Look) × ReplyByRealm realm.now all message.now moment words.now (Some reply.items)) }
     ensures refusal { IfErr result (MayRefuse
         (λ fault. FailsFor (Holds (F.content accounts.now.file)) (FailsAccount (F.content accounts.now.file) (F.fails accounts.now.file)) realm.now.name message.now fault
         ⊎ (AsksByCertificate message.now × FailsMeans realm.now.pkinit fault))

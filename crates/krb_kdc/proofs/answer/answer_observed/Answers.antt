@@ -60,3 +60,19 @@ returns-in-Some-clause-told g c = c.in_ok-reply.ensures.told c.args.message.now 
 
 pub returns-in-Some-2-clause-told : goal.returns-in-Some-2-clause-told
 returns-in-Some-2-clause-told g c = c.in_ok-reply-2.ensures.told c.args.message.now (rw c.in-Some-2.is at c.in_ok-request-2.ensures)
+
+pub returns-in-Some-clause-some : goal.returns-in-Some-clause-some
+returns-in-Some-clause-some g c =
+    let some = c.in_ok-reply.ensures.some in (
+      some.0,
+      by_given g.S.Given.Pkinit.rows (g.S.PkinitSource.gives c.args.source.now) (call_with c.args.call.now some.0) c.args.message.now c.in-Some.request c.in_ok-reply.reply.items
+          (rw c.in-Some.is at c.in_ok-request.ensures) some.1,
+    )
+
+pub returns-in-Some-2-clause-some : goal.returns-in-Some-2-clause-some
+returns-in-Some-2-clause-some g c =
+    let some = c.in_ok-reply-2.ensures.some in (
+      some.0,
+      by_tgs g.S.Given.Pkinit.rows (g.S.PkinitSource.gives c.args.source.now) (call_with c.args.call.now some.0) c.args.message.now c.in-Some-2.request c.in_ok-reply-2.reply.items
+          (rw c.in_default.is at c.in_ok-request.ensures) (rw c.in-Some-2.is at c.in_ok-request-2.ensures) some.1,
+    )

@@ -1,5 +1,5 @@
 use Rattle.std.proofs.Common.{sym, ◌∙◌}
-use Rattle.krb_realm_files.proofs.Answered.{replied, told_from}
+use Rattle.krb_realm_files.proofs.Answered.{of_some, replied, told_from}
 use Rattle.krb_realm_files.proofs.Refusing.{no_record, no_reply}
 use Rattle.krb_realm_files.proofs.answer.answer_from.Goals as goal
 
@@ -22,3 +22,6 @@ pub returns-clause-refusal : goal.returns-clause-refusal
 returns-clause-refusal g c =
     no_reply (g.F.ReadAt.content c.args.accounts.now.file) (g.F.ReadAt.fails c.args.accounts.now.file) c.args.message.now c.in_ok-realm.realm c.in_ok-realm.ensures.said c.answer_for-answered.result
     c.answer_for-answered.ensures.refusal
+
+pub returns-clause-some : goal.returns-clause-some
+returns-clause-some g c = of_some c.args.message.now c.args.moment c.args.words.now c.in_ok-realm.realm c.answer_for-answered.result c.answer_for-answered.ensures.some
