@@ -47,22 +47,30 @@ pub(crate) fn serve_database<
     ensures { IfErr result (λ stop. status_of stop ≡ 1 → (reader.new ≡ reader.old) × (writer.new ≡ writer.old)) }
 {
     let moment = moment_of(served.moment)?;
-    let accounts = AtPath {
-        files: rt,
-        path: served.database,
-    };
+    let accounts = database_of(rt, served);
     if let Err(fault) = find_realm(rt.alloc(), &accounts) {
         return Err(stop_of(served.database, fault));
     }
     warn_of_mode(rt, served.database);
     let mut words = open_random(rt, served)?;
     let is_logged = served.is_logged;
-    match serve_opened(rt, &accounts, is_logged, moment, &mut words, reader, writer) {
+    let octets = &mut words.octets;
+    match serve_opened(rt, &accounts, is_logged, moment, octets, reader, writer) {
         Ok(_) => Ok(()),
         Err(fault) => {
-            let device = device_of(served.words, fault, Source::failures(&words));
+            let device = device_of(words.path, fault, Source::failures(&words.octets));
             Err(Stop::Serving(device, fault))
         }
+    }
+}
+
+// Returns the database that the arguments name.
+fn database_of<'f, 'p, F: Files<File = File>>(files: &'f F, served: Served<'p>) -> AtPath<'f, 'p, F>
+    ensures { result.path.now ≡ served.entry.database.now }
+{
+    AtPath {
+        files,
+        path: served.database,
     }
 }
 

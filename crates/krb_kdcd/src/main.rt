@@ -7,14 +7,15 @@
 //! reply. It warns where others may use the database.
 //!
 //! The loop is [`serve_by_clock`](krb_frames::serve_by_clock), or with `--at` [`serve_at`](krb_frames::serve_at). With
-//! [`FileRealm`](krb_realm_files::FileRealm) each reply is that of the realm of one opened file, where its octets are known: those of a file
-//! of the system aren't.
+//! [`FileRealm`](krb_realm_files::FileRealm) each reply is that of some realm with some accounts, and of the realm of one opened file,
+//! where its octets are known: those of a file of the system aren't.
 //!
 //! `command_of` returns what the arguments ask for, as `command_in` says, and `moment_of` the moment that the text behind `--at` names. A
-//! `Stop` is displayed as `stop_text`, but for `Database` and `Words`. `serve_database` reads and writes nothing of its streams where it stops
-//! with status 1. `serve_realm` promises what is served, for every type of file, stream and clock. Where the octets are known, the output is
-//! the frames of the replies of the file's realm (`RepliesFrom`). A message that is no request gets an empty frame (`Tolerates`), and serving
-//! goes on. `serve_realm_at` promises the same output at its moment. Both pass over no failed call of a device (`AnswersFailures`). No contract
+//! `Stop` is displayed as `stop_text`, but for `Database` and `Words`. `serve_database` reads and writes nothing of its streams where it
+//! stops with status 1. `serve_realm` promises what is served, for every type of file, stream and clock. Where the octets are known, the
+//! output is the frames of the replies of the file's realm (`RepliesFrom`). A message that is no request gets an empty frame (`Tolerates`),
+//! and serving goes on. `serve_realm_at` promises the same at its moment. Both pass over no failed call of a device (`AnswersFailures`).
+//! `open_random` opens the path that the arguments name as WORDS, and `database_of` takes the one that they name as DATABASE. No contract
 //! says what a file of the system or standard output holds.
 #![tactic(auto)]
 

@@ -1,5 +1,5 @@
 //! Random octets that are none.
-ghost use Rattle.std.specs.Prelude.{◌≡◌, ◌==◌};
+ghost use Rattle.std.specs.Prelude.{◌≡◌, ◌==◌, IfOk};
 ghost use Rattle.std.specs.List.{list_all};
 ghost use Rattle.krb_kdcd.specs.Words.{is_repeated};
 
@@ -11,24 +11,41 @@ use krb_programs::open_words;
 use std::fs::{File, Files};
 use std::io::ErrorKind;
 
-/// Opens the file of random octets, and looks at it.
+/// A file of random octets that was opened.
+#[derive(Drop)]
+pub(crate) struct RandomFile<'a> {
+    /// The path at which it was opened.
+    pub(crate) path: &'a str,
+    /// What it gives.
+    pub(crate) octets: Watched<File>,
+}
+
+/// Opens the file of random octets that the arguments name, and looks at it.
 ///
 /// A regular file is refused, and one whose first octets are one octet repeated, unless the octets may be fixed. No message gets the octets
 /// that were looked at.
 pub(crate) fn open_random<'a, F: Files<File = File>>(
     files: &F,
     served: Served<'a>,
-) -> Result<Watched<File>, Stop<'a>> {
-    let path = served.words;
-    let mut words = match open_words(files, path) {
-        Ok(words) => words,
-        Err(ErrorKind::OutOfMemory) => return Err(Stop::Memory),
-        Err(kind) => return Err(Stop::Words(path, kind)),
-    };
+) -> Result<RandomFile<'a>, Stop<'a>>
+    ensures path { IfOk result (λ words. words.path.now ≡ served.entry.words.now) }
+{
+    let mut words = open_at(files, served.words)?;
     if !served.may_be_fixed {
-        check_random(path, &mut words)?;
+        check_random(words.path, &mut words.octets)?;
     }
     Ok(words)
+}
+
+// Opens the file that has a path.
+fn open_at<'a, F: Files<File = File>>(files: &F, path: &'a str) -> Result<RandomFile<'a>, Stop<'a>>
+    ensures { IfOk result (λ words. words.path.now ≡ path.now) }
+{
+    match open_words(files, path) {
+        Ok(octets) => Ok(RandomFile { path, octets }),
+        Err(ErrorKind::OutOfMemory) => Err(Stop::Memory),
+        Err(kind) => Err(Stop::Words(path, kind)),
+    }
 }
 
 // Refuses a regular file, and one octet repeated.
