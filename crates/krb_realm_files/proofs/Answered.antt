@@ -21,7 +21,7 @@ replied bytes message moment words realm (Err refusal) is of = tt
 -- A reply of the realm that was read is one of some realm.
 pub of_some : (message : List ℕ) (moment : ℕ) (words : List ℕ) (realm : RealmParameters) (result : Result (Vec ℕ Global) LookupRefusal)
     → IfOk result (λ reply. (all : Look) × ReplyByRealm realm all message moment words (Some reply.items)) → IfOk result (λ reply. IsRealmReply message moment words reply.items)
-of_some message moment words realm (Ok reply) is = (realm, is)
+of_some message moment words realm (Ok reply) is = (realm, is.0, is.1)
 of_some message moment words realm (Err refusal) is = tt
 
 -- What an observer saw of the realm that the file says, it saw of the file.

@@ -37,12 +37,12 @@ use Rattle.krb_realm_files.proofs.Unasked.{unasked}
 pub unusable : (octets : List ℕ) (request : KdcReq) (fault : PkinitFault) → IsByCertificate request → IsUnusable octets fault
     → MayFail (λ own. IsByCertificate request × FailsMeans (Some octets) own) (lookup_fault_of fault)
 unusable octets request pkinit.Memory asks is = tt
-unusable octets request pkinit.NotThree asks is = (asks, refl, (pkinit.NotThree, λ e. cc (e), is))
-unusable octets request pkinit.Certificate asks is = (asks, refl, (pkinit.Certificate, λ e. cc (e), is))
-unusable octets request pkinit.Key asks is = (asks, refl, (pkinit.Key, λ e. cc (e), is))
-unusable octets request (pkinit.Refused why) asks is = (asks, refl, (pkinit.Refused why, λ e. cc (e), is))
-unusable octets request pkinit.OtherKey asks is = (asks, refl, (pkinit.OtherKey, λ e. cc (e), is))
-unusable octets request pkinit.Anchor asks is = (asks, refl, (pkinit.Anchor, λ e. cc (e), is))
+unusable octets request pkinit.NotThree asks is = (asks, (refl, (pkinit.NotThree, λ e. cc (e), is)))
+unusable octets request pkinit.Certificate asks is = (asks, (refl, (pkinit.Certificate, λ e. cc (e), is)))
+unusable octets request pkinit.Key asks is = (asks, (refl, (pkinit.Key, λ e. cc (e), is)))
+unusable octets request (pkinit.Refused why) asks is = (asks, (refl, (pkinit.Refused why, λ e. cc (e), is)))
+unusable octets request pkinit.OtherKey asks is = (asks, (refl, (pkinit.OtherKey, λ e. cc (e), is)))
+unusable octets request pkinit.Anchor asks is = (asks, (refl, (pkinit.Anchor, λ e. cc (e), is)))
 
 -- What is given by a realm's octets.
 pub for_octets : (own : Option (List ℕ)) (octets bytes : List ℕ) (request : KdcReq) (result : Result FilePkinit LookupFault) → own ≡ Some octets → bytes ≡ octets
