@@ -1,10 +1,10 @@
 -- Keys that are refused.
-use Rattle.std.specs.Prelude.{ℕ, Bool, ◌||◌, ◌&&◌, nat_eq, nat_lt, List, length, slice_index, Option, Some, None, if◌then◌else◌}
+use Rattle.std.specs.Prelude.{ℕ, ◌%◌, Bool, ◌||◌, ◌&&◌, nat_eq, nat_lt, List, length, slice_index, Option, Some, None, if◌then◌else◌}
 use Rattle.modular_arithmetic.specs.declared.modulus.ModulusRefusal.{ModulusRefusal}
 use Rattle.modular_arithmetic.specs.Naturals.{os2ip}
 use Rattle.modular_arithmetic.specs.Refusals.{refusal_of as modulus_refusal_of}
 use Rattle.public_key_cryptography.specs.declared.public_key.KeyRefusal.{KeyRefusal}
-use Rattle.public_key_cryptography.specs.declared.public_key.KeyRefusal.TheVariants.{Modulus, KeyTooWeak, ExponentTooLong, ExponentTooSmall, ExponentZeroInFront}
+use Rattle.public_key_cryptography.specs.declared.public_key.KeyRefusal.TheVariants.{Modulus, KeyTooWeak, ExponentTooLong, ExponentTooSmall, ExponentZeroInFront, EvenExponent}
 
 -- a modulus without a zero octet in front has fewer than 2,048 bits
 abbrev pub is_weak : List ℕ → Bool
@@ -16,6 +16,7 @@ exponent_refusal e =
     if nat_lt 8 (length e) then Some ExponentTooLong
     else if nat_lt (os2ip e) 2 then Some ExponentTooSmall
     else if nat_eq (slice_index e 0) 0 then Some ExponentZeroInFront
+    else if nat_eq (os2ip e % 2) 0 then Some EvenExponent
     else None
 
 -- why modulus and public exponent are refused, where the modulus is odd and of a fit length

@@ -7,6 +7,7 @@ ghost use Rattle.public_key_cryptography.specs.Agreements.{group_of, in_range, o
 use crate::group_primes::{PRIME_1024, PRIME_2048, PRIME_4096};
 use modular_arithmetic::Modulus;
 use std::alloc::{AllocError, Global};
+use thiserror::Error;
 
 /// A group of numbers modulo a prime, whose generator is 2.
 #[derive(Clone, Copy, Debug, Drop, PartialEq, Eq)]
@@ -27,11 +28,13 @@ pub enum WeakGroup {
 }
 
 /// Why no group has a prime.
-#[derive(Clone, Copy, Debug, Drop, PartialEq, Eq)]
+#[derive(Clone, Copy, Debug, Drop, PartialEq, Eq, Error)]
 pub enum GroupRefusal {
     /// The prime is that of the 1024-bit group.
+    #[error("the prime is that of the 1024-bit group, which is too weak")]
     GroupTooWeak,
     /// The prime is of none of the groups.
+    #[error("the prime is of no known group")]
     UnknownGroup,
 }
 

@@ -7,23 +7,32 @@ use crate::encoding::encode;
 use crate::hash::HashFunction;
 use modular_arithmetic::octets::read_octets;
 use modular_arithmetic::{Modulus, ModulusRefusal};
+use thiserror::Error;
 
 /// The octets of the longest modulus.
 pub(crate) const MOST_OCTETS: usize = 512;
 
 /// Why a key is refused.
-#[derive(Clone, Copy, Debug, Drop, PartialEq, Eq)]
+#[derive(Clone, Copy, Debug, Drop, PartialEq, Eq, Error)]
 pub enum KeyRefusal {
     /// The modulus is even, too short, too long, or begins with a zero octet.
+    #[error("{0}")]
     Modulus(ModulusRefusal),
     /// The modulus has fewer than 2,048 bits.
+    #[error("the modulus has fewer than 2,048 bits")]
     KeyTooWeak,
     /// The public exponent has more than eight octets.
+    #[error("the public exponent has more than eight octets")]
     ExponentTooLong,
     /// The public exponent is 0 or 1.
+    #[error("the public exponent is 0 or 1")]
     ExponentTooSmall,
     /// The public exponent begins with a zero octet.
+    #[error("the public exponent has a zero octet in front")]
     ExponentZeroInFront,
+    /// The public exponent is even.
+    #[error("the public exponent is even")]
+    EvenExponent,
 }
 
 /// The numbers of a public key as octets, the most significant first (RFC 8017, section 3.1).
@@ -85,6 +94,9 @@ fn exponent_refusal(exponent: &[u8]) -> Option<KeyRefusal>
     }
     if has_zero_in_front(exponent) {
         return Some(KeyRefusal::ExponentZeroInFront);
+    }
+    if exponent_of(exponent) % 2 == 0 {
+        return Some(KeyRefusal::EvenExponent);
     }
     None
 }

@@ -27,6 +27,7 @@ fn name_of(refusal: KeyRefusal) -> &'static str {
         KeyRefusal::ExponentTooLong => "ExponentTooLong",
         KeyRefusal::ExponentTooSmall => "ExponentTooSmall",
         KeyRefusal::ExponentZeroInFront => "ExponentZeroInFront",
+        KeyRefusal::EvenExponent => "EvenExponent",
     }
 }
 

@@ -23,7 +23,7 @@ use Rattle.public_key_cryptography.specs.declared.public_key.KeyRefusal.{KeyRefu
 use Rattle.public_key_cryptography.specs.declared.public_key.KeyRefusal.TheVariants as by
 use Rattle.rsa_keys.specs.Values.{is_natural}
 use Rattle.rsa_keys.specs.declared.refusal.RsaKeyRefusal.{RsaKeyRefusal}
-use Rattle.rsa_keys.specs.declared.refusal.RsaKeyRefusal.TheVariants.{NotRsa, NegativeNumber, KeyTooWeak, ModulusTooLong, EvenModulus, ExponentTooSmall, ExponentTooLong, ZeroInFront}
+use Rattle.rsa_keys.specs.declared.refusal.RsaKeyRefusal.TheVariants.{NotRsa, NegativeNumber, KeyTooWeak, ModulusTooLong, EvenModulus, ExponentTooSmall, EvenExponent, ExponentTooLong, ZeroInFront}
 use Rattle.rsa_keys.specs.declared.refusal.SignatureRefusal.{SignatureRefusal}
 use Rattle.rsa_keys.specs.declared.refusal.SignatureRefusal.TheVariants.{Md5, Sha1, OtherAlgorithm, Key, NotValid}
 
@@ -75,6 +75,8 @@ refusal_named by.ExponentTooLong = ExponentTooLong
 -- A public exponent isn't 0 or 1 (RFC 8017, section 3.1). Test: `check ExponentTooSmall`, `own ExponentTooSmall`.
 refusal_named by.ExponentTooSmall = ExponentTooSmall
 refusal_named by.ExponentZeroInFront = ZeroInFront
+-- A public exponent is odd (RFC 8017, section 3.1). Test: `check EvenExponent`, `own EvenExponent`.
+refusal_named by.EvenExponent = EvenExponent
 
 -- a modulus and a public exponent as octets, the most significant first
 abbrev pub Numbers : Type 0

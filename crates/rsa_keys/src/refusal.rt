@@ -22,6 +22,9 @@ pub enum RsaKeyRefusal {
     /// The public exponent is 0 or 1.
     #[error("the RSA key's public exponent is 0 or 1")]
     ExponentTooSmall,
+    /// The public exponent is even.
+    #[error("the RSA key's public exponent is even")]
+    EvenExponent,
     /// The public exponent has more than 64 bits.
     #[error("the RSA key's public exponent has more than 64 bits")]
     ExponentTooLong,

@@ -130,6 +130,7 @@ pub(crate) fn refusal_named(refusal: KeyRefusal) -> RsaKeyRefusal
         KeyRefusal::ExponentTooLong => RsaKeyRefusal::ExponentTooLong,
         KeyRefusal::ExponentTooSmall => RsaKeyRefusal::ExponentTooSmall,
         KeyRefusal::ExponentZeroInFront => RsaKeyRefusal::ZeroInFront,
+        KeyRefusal::EvenExponent => RsaKeyRefusal::EvenExponent,
     }
 }
 

@@ -21,6 +21,7 @@ fn key_name(refusal: RsaKeyRefusal) -> &'static str {
         RsaKeyRefusal::ModulusTooLong => "ModulusTooLong",
         RsaKeyRefusal::EvenModulus => "EvenModulus",
         RsaKeyRefusal::ExponentTooSmall => "ExponentTooSmall",
+        RsaKeyRefusal::EvenExponent => "EvenExponent",
         RsaKeyRefusal::ExponentTooLong => "ExponentTooLong",
         RsaKeyRefusal::ZeroInFront => "ZeroInFront",
     }
