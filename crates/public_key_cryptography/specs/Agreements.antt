@@ -2,7 +2,7 @@
 use Rattle.std.specs.Prelude.{ℕ, ◌+◌, ◌^◌, ◌%◌, Bool, ◌&&◌, nat_lt, nat_le, List, length, Option, Some, None, Result, Ok, Err, if◌then◌else◌}
 use Rattle.std.specs.Str.{bytes_eq}
 use Rattle.modular_arithmetic.specs.Naturals.{i2osp, os2ip}
-use Rattle.public_key_cryptography.specs.declared.group_primes.TheConstants.{PRIME_1024, PRIME_2048, PRIME_4096}
+use Rattle.public_key_cryptography.specs.GroupPrimes.{octets_in, second_oakley_group, modp_group_2048, modp_group_4096}
 use Rattle.public_key_cryptography.specs.declared.group.Group.{Group}
 use Rattle.public_key_cryptography.specs.declared.group.Group.TheVariants.{Modp1024, Modp2048, Modp4096}
 use Rattle.public_key_cryptography.specs.declared.group.GroupRefusal.{GroupRefusal}
@@ -10,11 +10,11 @@ use Rattle.public_key_cryptography.specs.declared.group.GroupRefusal.TheVariants
 use Rattle.public_key_cryptography.specs.declared.group.WeakGroup.{WeakGroup}
 use Rattle.public_key_cryptography.specs.declared.group.WeakGroup.TheVariants.{Refused, Taken}
 
--- a group's prime as octets (RFC 3526, sections 3 and 5; RFC 2409, section 6.2)
+-- a group's prime as octets
 abbrev pub octets_of : Group → List ℕ
-octets_of Modp1024 = PRIME_1024
-octets_of Modp2048 = PRIME_2048
-octets_of Modp4096 = PRIME_4096
+octets_of Modp1024 = octets_in second_oakley_group
+octets_of Modp2048 = octets_in modp_group_2048
+octets_of Modp4096 = octets_in modp_group_4096
 
 -- how many octets the prime has
 abbrev pub size_of : Group → ℕ
@@ -30,9 +30,9 @@ weak_group Taken = Ok Modp1024
 -- the group of a prime
 unfoldable pub group_of : List ℕ → WeakGroup → Result Group GroupRefusal
 group_of octets weak =
-    if bytes_eq octets PRIME_2048 then Ok Modp2048
-    else if bytes_eq octets PRIME_4096 then Ok Modp4096
-    else if bytes_eq octets PRIME_1024 then weak_group weak
+    if bytes_eq octets (octets_of Modp2048) then Ok Modp2048
+    else if bytes_eq octets (octets_of Modp4096) then Ok Modp4096
+    else if bytes_eq octets (octets_of Modp1024) then weak_group weak
     else Err UnknownGroup
 
 -- a group's prime
