@@ -3,3 +3,8 @@ pub mod Refusals
 pub mod PrimeRefusals
 pub mod Roots
 pub mod Secrets
+pub mod Divisors
+pub mod Fermat
+pub mod RsaRoots
+pub mod Encoded
+pub mod Signing

@@ -1,10 +1,13 @@
 -- Which refusal comes first.
-use Rattle.std.proofs.Common.{◌≡◌, ℕ, ◌^◌, ◌≤◌, false, eqb, ltb, ◌||◌, ◌&&◌, List, [], ◌∷◌, length, get_or, Option, Some, None, sym, ap, ◌∙◌, arith}
+use Rattle.std.proofs.Common.{◌≡◌, ℕ, ◌-◌, ◌*◌, ◌^◌, ◌<◌, ◌≤◌, false, eqb, ltb, ◌||◌, ◌&&◌, List, [], ◌∷◌, length, get_or, Option, Some, None, sym, ap, ◌∙◌, arith}
+use Rattle.std.proofs.Math.Nat.{mul-le-mul_right}
 use Rattle.std.proofs.lemmas.Bool.Decides.{nat_tests}
+use Rattle.std.proofs.lemmas.Int.Digits as digits
 use Rattle.modular_arithmetic.specs.declared.modulus.ModulusRefusal.{ModulusRefusal}
 use Rattle.modular_arithmetic.specs.Naturals.{number_in, os2ip}
 use Rattle.modular_arithmetic.specs.Refusals.{refusal_of as modulus_refusal_of}
-use Rattle.modular_arithmetic.proofs.Taken.{not_below, not_first}
+use Rattle.modular_arithmetic.proofs.OctetSteps.{all-below, number-begins}
+use Rattle.modular_arithmetic.proofs.Taken.{not_below, not_first, taken}
 use Rattle.modular_arithmetic.proofs.Numbers.{number-cons, number-nil}
 use Rattle.public_key_cryptography.specs.declared.public_key.KeyRefusal.{KeyRefusal}
 use Rattle.public_key_cryptography.specs.declared.public_key.KeyRefusal.TheVariants.{Modulus}
@@ -42,3 +45,15 @@ pub single : (words : List ℕ) → length words ≡ 1 → get_or words 0 0 ≡ 
 single [] e = absurd (omega arith)
 single (x ∷ []) e = omega (arith, number-cons (2 ^ 64) x [], number-nil (2 ^ 64))
 single (x ∷ y ∷ ys) e = absurd (omega arith)
+
+-- a modulus's number by how many octets it has
+pub modulus-below : (n : List ℕ) → ((k : ℕ) → get_or n k 0 < 256) → os2ip n < 256 ^ length n
+modulus-below n small = digits.number_lt 256 n (all-below 256 n small)
+
+pub modulus-high : (n : List ℕ) → modulus_refusal_of n ≡ None → 256 ^ (length n - 1) ≤ os2ip n
+modulus-high [] h = absurd (let t = taken [] h in omega (arith, t.least))
+modulus-high (x ∷ xs) h =
+    let t = taken (x ∷ xs) h in
+    let times : 1 * 256 ^ length xs ≤ x * 256 ^ length xs = mul-le-mul_right (256 ^ length xs) (let f : 1 ≤ x = t.first in f) in
+    let last : 256 ^ length xs ≡ 256 ^ (length (x ∷ xs) - 1) = ap (λ k. 256 ^ k) (let f : length xs ≡ length (x ∷ xs) - 1 = omega arith in f) in
+    omega (arith, times, number-begins 256 x xs, last)

@@ -1,5 +1,5 @@
 //! A message as the octets that are signed (RFC 8017, section 9.2).
-ghost use Rattle.std.specs.Prelude.{◌≡◌, ◌+◌, ◌≤◌, length, replicate};
+ghost use Rattle.std.specs.Prelude.{◌≡◌, ℕ, ◌+◌, ◌<◌, ◌≤◌, length, replicate, slice_index};
 ghost use Rattle.public_key_cryptography.specs.Pkcs1.{encoded, padded};
 
 use crate::hash::{HashFunction, sha256_of, sha384_of, sha512_of};
@@ -19,6 +19,11 @@ const AHEAD_SHA512: [u8; 20] = [
     0, 0x30, 0x51, 0x30, 0x0d, 0x06, 0x09, 0x60, 0x86, 0x48, 0x01, 0x65, 0x03, 0x04, 0x02, 0x03,
     0x05, 0x00, 0x04, 0x40,
 ];
+
+/// Says of octets what their type says. It does nothing.
+pub(crate) fn are_octets(octets: &[u8])
+    ensures { (k : ℕ) → slice_index octets.now k < 256 }
+{}
 
 /// Writes an octet at each place.
 fn fill(octets: &mut [u8], octet: u8)

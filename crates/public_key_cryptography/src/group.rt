@@ -1,9 +1,10 @@
 //! Groups, and what two sides make in them.
-ghost use Rattle.std.specs.Prelude.{◌≡◌, ℕ, ◌*◌, ◌<◌, ◌≤◌, List, slice_index, IfOk, IsTrue};
+ghost use Rattle.std.specs.Prelude.{◌≡◌, ℕ, ◌*◌, ◌≤◌, List, IfOk, IsTrue};
 ghost use Rattle.std.specs.Option.{option_map};
 ghost use Rattle.modular_arithmetic.specs.Moduli.{value_of};
 ghost use Rattle.public_key_cryptography.specs.Agreements.{group_of, in_range, octets_of, prime_of, public_of, shared_of, size_of};
 
+use crate::encoding::are_octets;
 use crate::group_primes::{PRIME_1024, PRIME_2048, PRIME_4096};
 use modular_arithmetic::Modulus;
 use std::alloc::{AllocError, Global};
@@ -148,8 +149,3 @@ pub fn agree(group: Group)
 {
     are_octets(group.prime());
 }
-
-/// Says of octets what their type says. It does nothing.
-fn are_octets(octets: &[u8])
-    ensures { (k : ℕ) → slice_index octets.now k < 256 }
-{}

@@ -2,7 +2,7 @@
 ghost use Rattle.std.specs.Prelude.{◌≡◌, ◌*◌, ◌≤◌, length, Some, None, IfOk, IfSome, IsTrue, if◌then◌else◌};
 ghost use Rattle.std.specs.Option.{option_map};
 ghost use Rattle.modular_arithmetic.specs.Naturals.{i2osp, os2ip};
-ghost use Rattle.public_key_cryptography.specs.Primes.{all_fit, fits};
+ghost use Rattle.public_key_cryptography.specs.PrimeSizes.{all_fit, fits};
 
 use crate::encoding::encode;
 use crate::hash::HashFunction;
@@ -21,7 +21,8 @@ pub struct PrivateKey {
 }
 
 impl PrivateKey {
-    ghost use Rattle.public_key_cryptography.specs.Pkcs1.{private_root, signed, verifies};
+    ghost use Rattle.public_key_cryptography.specs.Pkcs1.{private_root, signature_of, signed, verifies};
+    ghost use Rattle.public_key_cryptography.specs.RightKeys.{IsRight};
 
     /// The key of this private exponent.
     pub fn new(public: PublicKey, exponent: Vec<u8>) -> PrivateKey
@@ -73,16 +74,32 @@ impl PrivateKey {
         ensures made { IfOk result (λ made. option_map (λ signature. signature.items) made ≡ signed self.now hash message.now) }
         ensures verified { IfOk result (λ made. IfSome made (λ signature.
             IsTrue (verifies self.now.public hash message.now signature.items))) }
+        ensures right { IsRight self.now → IfOk result (λ made.
+            option_map (λ signature. signature.items) made ≡ Some (signature_of self.now hash message.now)) }
     {
         let mut encoded = [0u8; MOST_OCTETS];
         let encoded = &mut encoded[..self.public.len];
         encode(encoded, hash, message);
         let mut signature = vec![in alloc; 0u8; self.public.len]?;
         self.root(&mut signature, encoded);
+        Ok(self.unless_wrong(hash, message, signature))
+    }
+
+    /// The signature that was made, or `None` if it doesn't verify under the public key.
+    fn unless_wrong(
+        &self,
+        hash: HashFunction,
+        message: &[u8],
+        signature: Vec<u8>,
+    ) -> Option<Vec<u8>>
+        requires { signature.items ≡ signature_of self.now hash message.now }
+        ensures made { option_map (λ signature. signature.items) result ≡ signed self.now hash message.now }
+        ensures verified { IfSome result (λ signature. IsTrue (verifies self.now.public hash message.now signature.items)) }
+    {
         if !self.public.verifies(hash, message, &signature) {
-            return Ok(None);
+            return None;
         }
-        Ok(Some(signature))
+        Some(signature)
     }
 
     /// Writes a number to the private exponent, by the primes where the key has them (RFC 8017, section 5.2.1).

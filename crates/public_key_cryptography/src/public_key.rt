@@ -1,9 +1,10 @@
 //! Public keys, and signatures that verify under them (RFC 8017, section 8.2.2).
-ghost use Rattle.std.specs.Prelude.{◌≡◌, ◌*◌, ◌<◌, ◌≤◌, length, nat_eq, slice_index, Some, MatchResult};
+ghost use Rattle.std.specs.Prelude.{◌≡◌, ◌-◌, ◌*◌, ◌^◌, ◌<◌, ◌≤◌, length, nat_eq, slice_index, Some, MatchResult};
+ghost use Rattle.modular_arithmetic.specs.Moduli.{value_of};
 ghost use Rattle.modular_arithmetic.specs.Naturals.{os2ip};
 ghost use Rattle.public_key_cryptography.specs.Keys.{exponent_refusal, further_refusal, is_weak, refusal_of};
 
-use crate::encoding::encode;
+use crate::encoding::{are_octets, encode};
 use crate::hash::HashFunction;
 use modular_arithmetic::octets::read_octets;
 use modular_arithmetic::{Modulus, ModulusRefusal};
@@ -52,6 +53,8 @@ pub struct PublicKey {
     ghost most: { len ≤ 512 },
     ghost room: { len ≤ 8 * modulus.reducer.len },
     ghost some: { 0 < exponent },
+    ghost fits: { value_of modulus.reducer < 256 ^ len },
+    ghost high: { 256 ^ (len - 1) ≤ value_of modulus.reducer },
 }
 
 /// Whether a modulus has fewer than 2,048 bits.
@@ -128,6 +131,7 @@ impl PublicKey {
             Some(refusal) => return Err(refusal),
             None => {}
         }
+        are_octets(numbers.modulus);
         let len = numbers.modulus.len();
         let exponent = exponent_of(numbers.exponent);
         Ok(PublicKey {
