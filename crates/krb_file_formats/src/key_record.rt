@@ -5,6 +5,7 @@ ghost use Rattle.krb_crypto.specs.declared.suite.CipherSuite.{CipherSuite as Sui
 
 use krb_crypto::{CipherSuite, Key};
 use picky_asn1::wrapper::GeneralStringAsn1;
+use std::alloc::AllocError;
 use std::marker::Model;
 
 /// A key record: a principal, and one of its keys with the etype, the kvno and the time. A contract sees these.
@@ -128,6 +129,59 @@ impl KeytabRecord {
         };
         key_of(suite, self.key_octets())
     }
+}
+
+impl Clone for KeytabRecord {
+    ghost is_clone = { λ entry copy. copy ≡ entry };
+
+    fn clone(&self) -> Result<KeytabRecord, AllocError> {
+        let realm = self.realm.clone()?;
+        let components = self.components.clone()?;
+        let key = self.key.clone()?;
+        Ok(KeytabRecord {
+            realm,
+            components,
+            name_type: self.name_type,
+            timestamp: self.timestamp,
+            kvno: self.kvno,
+            etype: self.etype,
+            key,
+        })
+    }
+}
+
+/// Records are the same where each field is.
+impl PartialEq for KeytabRecord {
+    ghost use Rattle.std.specs.Bool.{nat_eq};
+    ghost use Rattle.std.specs.Cmp.Lexicographic.{pointwise};
+    ghost use Rattle.std.specs.Cmp.Rules.{comparing};
+    ghost use Rattle.std.specs.Ordering.{on, eq_of_both};
+    ghost use Rattle.std.proofs.Common.{rules};
+
+    ghost eq = { eq_of_both (on (λ r. r.realm) (pointwise nat_eq))
+        (eq_of_both (on (λ r. r.components) (pointwise (pointwise nat_eq)))
+        (eq_of_both (on (λ r. r.name_type) nat_eq) (eq_of_both (on (λ r. r.timestamp) nat_eq)
+        (eq_of_both (on (λ r. r.kvno) nat_eq) (eq_of_both (on (λ r. r.etype) nat_eq)
+        (on (λ r. r.key) (pointwise nat_eq))))))) };
+
+    ghost laws = { Prim.search (comparing, rules) depth 16 };
+
+    fn eq(&self, other: &KeytabRecord) -> bool {
+        self.realm == other.realm
+            && self.components() == other.components()
+            && self.name_type == other.name_type
+            && self.timestamp == other.timestamp
+            && self.kvno == other.kvno
+            && self.etype == other.etype
+            && self.key_octets() == other.key_octets()
+    }
+}
+
+impl Eq for KeytabRecord {
+    ghost use Rattle.std.specs.Cmp.Rules.{comparing};
+    ghost use Rattle.std.proofs.Common.{rules};
+
+    ghost laws = { Prim.search (comparing, rules) depth 16 };
 }
 
 // Returns the key of a suite, if it has the length of the suite's keys.

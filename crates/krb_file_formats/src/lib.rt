@@ -13,7 +13,8 @@
 //! `CredentialCache::from_bytes` the cache of exactly those that are laid out as one (`IsCredentialCache`). Any others are refused by the
 //! first fault in their order, with its offset. `Keytab::to_bytes` writes each record with its kvno twice, in 8 and in 32 bits, and without
 //! holes. `CredentialCache::to_bytes` writes the one file of a cache, so a file that is read is written octet for octet. What is written is
-//! read as the same, and octets have one reading at most. All take time and memory linear in the octets.
+//! read as the same, and octets have one reading at most. All take time and memory linear in the octets. A copy of a record or of a
+//! credential is equal to it, and `==` compares each field.
 #![tactic(auto)]
 
 pub mod credential_caches;

@@ -11,7 +11,7 @@ use crate::credential_caches::items::{CacheItem, put_listed, read_listed};
 use crate::credential_caches::principals::CachePrincipal;
 use crate::credential_caches::times::CredentialTimes;
 use crate::credential_caches::typed::TypedOctets;
-use std::alloc::Global;
+use std::alloc::{AllocError, Global};
 use std::marker::Model;
 
 /// A credential: a ticket with its key, and what the KDC said of it. A configuration entry is one, too, whose value is its ticket.
@@ -51,6 +51,78 @@ impl Model for CachedCredential {
       ticket = c.ticket.items;
       second_ticket = c.second_ticket.items;
     } };
+}
+
+impl Clone for CachedCredential {
+    ghost is_clone = { λ credential copy. copy ≡ credential };
+
+    fn clone(&self) -> Result<CachedCredential, AllocError> {
+        let client = self.client.clone()?;
+        let server = self.server.clone()?;
+        let key = self.key.clone()?;
+        let addresses = self.addresses.clone()?;
+        let authorization_data = self.authorization_data.clone()?;
+        let ticket = self.ticket.clone()?;
+        let second_ticket = self.second_ticket.clone()?;
+        Ok(CachedCredential {
+            client,
+            server,
+            key,
+            times: self.times,
+            is_skey: self.is_skey,
+            flags: self.flags,
+            addresses,
+            authorization_data,
+            ticket,
+            second_ticket,
+        })
+    }
+}
+
+/// Credentials are the same where each field is.
+impl PartialEq for CachedCredential {
+    ghost use Rattle.std.specs.Bool.{nat_eq};
+    ghost use Rattle.std.specs.Cmp.Lexicographic.{pointwise};
+    ghost use Rattle.std.specs.Cmp.Rules.{comparing};
+    ghost use Rattle.std.specs.Ordering.{on, eq_of_both};
+    ghost use Rattle.std.proofs.Common.{rules};
+    ghost use Rattle.krb_file_formats.specs.contracts.credential_caches.times.CredentialTimesPartialEq.TheImpl.Laws.{laws-law as times-law};
+    ghost use Rattle.krb_file_formats.specs.contracts.credential_caches.principals.CachePrincipalPartialEq.TheImpl.Laws.{laws-law as principal-law};
+    ghost use Rattle.krb_file_formats.specs.contracts.credential_caches.typed.TypedOctetsPartialEq.TheImpl.Laws.{laws-law as typed-law};
+
+    ghost eq = { eq_of_both (on (λ c. c.client) ⟦<CachePrincipal as PartialEq>⟧.eq)
+        (eq_of_both (on (λ c. c.server) ⟦<CachePrincipal as PartialEq>⟧.eq)
+        (eq_of_both (on (λ c. c.key) ⟦<TypedOctets as PartialEq>⟧.eq)
+        (eq_of_both (on (λ c. c.times) ⟦<CredentialTimes as PartialEq>⟧.eq)
+        (eq_of_both (on (λ c. c.is_skey) nat_eq) (eq_of_both (on (λ c. c.flags) nat_eq)
+        (eq_of_both (on (λ c. c.addresses) (pointwise ⟦<TypedOctets as PartialEq>⟧.eq))
+        (eq_of_both (on (λ c. c.authorization_data) (pointwise ⟦<TypedOctets as PartialEq>⟧.eq))
+        (eq_of_both (on (λ c. c.ticket) (pointwise nat_eq)) (on (λ c. c.second_ticket) (pointwise nat_eq)))))))))) };
+
+    ghost laws = { Prim.search (times-law, principal-law, typed-law, comparing, rules) depth 16 };
+
+    fn eq(&self, other: &CachedCredential) -> bool {
+        self.client == other.client
+            && self.server == other.server
+            && self.key == other.key
+            && self.times == other.times
+            && self.is_skey == other.is_skey
+            && self.flags == other.flags
+            && self.addresses.as_slice() == other.addresses.as_slice()
+            && self.authorization_data.as_slice() == other.authorization_data.as_slice()
+            && self.ticket.as_slice() == other.ticket.as_slice()
+            && self.second_ticket.as_slice() == other.second_ticket.as_slice()
+    }
+}
+
+impl Eq for CachedCredential {
+    ghost use Rattle.std.specs.Cmp.Rules.{comparing};
+    ghost use Rattle.std.proofs.Common.{rules};
+    ghost use Rattle.krb_file_formats.specs.contracts.credential_caches.times.CredentialTimesEq.TheImpl.Laws.{laws-law as times-law};
+    ghost use Rattle.krb_file_formats.specs.contracts.credential_caches.principals.CachePrincipalEq.TheImpl.Laws.{laws-law as principal-law};
+    ghost use Rattle.krb_file_formats.specs.contracts.credential_caches.typed.TypedOctetsEq.TheImpl.Laws.{laws-law as typed-law};
+
+    ghost laws = { Prim.search (times-law, principal-law, typed-law, comparing, rules) depth 16 };
 }
 
 // Reads the four times.

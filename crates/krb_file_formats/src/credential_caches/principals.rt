@@ -10,7 +10,7 @@ use crate::credential_caches::fields::{count32, put_data, put_number32, read_dat
 use crate::credential_caches::items::{CacheItem, put_list, read_list};
 use picky_asn1::LeafFault;
 use picky_asn1::wrapper::GeneralStringAsn1;
-use std::alloc::Global;
+use std::alloc::{AllocError, Global};
 use std::marker::Model;
 
 /// A principal. The name type is RFC 4120's in 32 bits (section 6.2), in two's complement.
@@ -39,6 +39,47 @@ impl CachePrincipal {
     {
         self.realm.as_str() == CONFIGURATION_REALM
     }
+}
+
+impl Clone for CachePrincipal {
+    ghost is_clone = { λ principal copy. copy ≡ principal };
+
+    fn clone(&self) -> Result<CachePrincipal, AllocError> {
+        let realm = self.realm.clone()?;
+        let components = self.components.clone()?;
+        Ok(CachePrincipal {
+            name_type: self.name_type,
+            realm,
+            components,
+        })
+    }
+}
+
+/// Principals are the same where each field is.
+impl PartialEq for CachePrincipal {
+    ghost use Rattle.std.specs.Bool.{nat_eq};
+    ghost use Rattle.std.specs.Cmp.Lexicographic.{pointwise};
+    ghost use Rattle.std.specs.Cmp.Rules.{comparing};
+    ghost use Rattle.std.specs.Ordering.{on, eq_of_both};
+    ghost use Rattle.std.proofs.Common.{rules};
+
+    ghost eq = { eq_of_both (on (λ p. p.name_type) nat_eq)
+        (eq_of_both (on (λ p. p.realm) (pointwise nat_eq)) (on (λ p. p.components) (pointwise (pointwise nat_eq)))) };
+
+    ghost laws = { Prim.search (comparing, rules) depth 16 };
+
+    fn eq(&self, other: &CachePrincipal) -> bool {
+        self.name_type == other.name_type
+            && self.realm == other.realm
+            && self.components.as_slice() == other.components.as_slice()
+    }
+}
+
+impl Eq for CachePrincipal {
+    ghost use Rattle.std.specs.Cmp.Rules.{comparing};
+    ghost use Rattle.std.proofs.Common.{rules};
+
+    ghost laws = { Prim.search (comparing, rules) depth 16 };
 }
 
 // Makes a text of the octets after the length at `place`.
