@@ -36,7 +36,8 @@ impl FileFault {
 
 /// Reports why a realm's file can't be used, before the message is refused.
 pub trait FaultReporter {
-    /// Reports the fault.
+    /// Reports the fault: the one for which the call then fails (`Accounts`). It is given one fault at most in each call, and none where
+    /// the call has another result. No clause says this, since a call by `&self` changes nothing that a contract sees.
     fn report(&self, fault: FileFault);
 }
 
