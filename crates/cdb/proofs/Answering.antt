@@ -12,18 +12,12 @@ use Rattle.cdb.specs.Records.{Has, Holds, answer}
 use Rattle.cdb.proofs.Sound.{same_list}
 use Rattle.cdb.proofs.Probing.{looked_none}
 
--- the record of a number is one of them
-pub at_has : (records : List Record) (index : ℕ) (r : Record) (key : List ℕ) → index < length records → r ≡ get_or records index r → r.key.items ≡ key → Has records key
-at_has [] index r key lt is e = absurd (omega (arith, lt))
-at_has (first ∷ records) zero r key lt is e = inl (ap (λ (s : Record). s.key.items) (sym is) ∙ e)
-at_has (first ∷ records) (suc index) r key lt is e = inr (at_has records index r key (omega (arith, lt)) is e)
-
 -- a list agrees with itself
 same_as_itself : (a : List ℕ) → pointwise nat_eq a a ≡ true
 same_as_itself [] = refl
 same_as_itself (x ∷ a) = rw (eq-eqb x x refl) (same_as_itself a)
 
-itself : (a b : List ℕ) → a ≡ b → pointwise nat_eq a b ≡ false → ⊥
+pub itself : (a b : List ℕ) → a ≡ b → pointwise nat_eq a b ≡ false → ⊥
 itself a b is other = let same = subst (λ c. pointwise nat_eq a c ≡ true) is (same_as_itself a) in absurd (cc (same, other))
 
 module _ (room : ℕ) (bytes key : List ℕ) where

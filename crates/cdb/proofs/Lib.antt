@@ -5,3 +5,11 @@ mod Sound
 mod Holding
 mod Answering
 mod Headers
+mod Judging
+mod Searching
+mod Places
+mod Frames
+mod DatabaseLaws
+mod FillingLaws
+mod MakingLaws
+mod Clashing

@@ -102,8 +102,3 @@ module _ (has : List ℕ → Type 0) (bytes key : List ℕ) where
           by false e =
               let ne = eqb-false table.1 0 e in
               sound_probed (hash_of key) table.0 table.1 slots (hash_of key / TABLES % table.1) table.1 (mod_below (hash_of key / TABLES) table.1 (omega (arith, ne)))
-
--- where a test passed, what follows from what it shows
-pub sound_as : {E : Type 0} (result : Result Bool E) (P Q : Type 0) → (P → Q) → IfOk result (λ is. IsTrue is → P) → IfOk result (λ is. IsTrue is → Q)
-sound_as (Ok is) P Q follows shown = λ yes. follows (shown yes)
-sound_as (Err fault) P Q follows shown = tt

@@ -1,6 +1,9 @@
 //! Checking that a file has no other keys than the given ones, and no damage that a look-up could meet.
-ghost use Rattle.std.specs.Prelude.{◌≡◌, ◌<◌, ◌≤◌, ◌+◌, ◌*◌, List, ℕ, Some, IfOk, IsTrue, length};
-ghost use Rattle.cdb.specs.Check.{has_data, IsSound, IsSoundKey, IsSoundRecord, IsSoundSlot, IsSoundTable};
+ghost use Rattle.std.specs.Prelude.{◌≡◌, ◌<◌, ◌≤◌, ◌+◌, ◌*◌, List, ℕ, Some, MatchBool, length};
+ghost use Rattle.cdb.specs.Check.{has_data, Judges};
+ghost use Rattle.cdb.specs.Check.{IsCut, IsCutKey, IsCutRecord, IsCutSlot, IsCutTable};
+ghost use Rattle.cdb.specs.Check.{HasOther, IsOtherKey, IsOtherRecord, IsOtherSlot, IsOtherTable};
+ghost use Rattle.cdb.specs.Check.{IsSound, IsSoundKey, IsSoundRecord, IsSoundSlot, IsSoundTable};
 ghost use Rattle.cdb.specs.Find.{find_in};
 ghost use Rattle.cdb.specs.Reading.{Gives};
 
@@ -14,18 +17,24 @@ pub trait Keys {
     // Which they are.
     ghost has: { Self → List ℕ → Type 0 };
 
-    /// Returns true only if this is one of the keys.
+    // Which are none of them.
+    ghost lacks: { Self → List ℕ → Type 0 };
+
+    /// Returns whether this is one of the keys.
     fn contains(&self, key: &[u8]) -> bool
-        ensures { IsTrue result → has self.now key.now };
+        ensures { MatchBool result (has self.now key.now) (lacks self.now key.now) };
 }
 
 /// Returns true only if a look-up of each key meets no damage, and finds one of these keys or none. It reads each slot of each hash
-/// table, and the key of each record that a slot has. A key of more than [`KEY_LIMIT`] octets is not one of these keys.
+/// table, and the key of each record that a slot has. It returns false only if a slot has a record with another key, or with a key of
+/// more than [`KEY_LIMIT`] octets.
 ///
-/// It refuses as `Damaged` if a pointer, a slot or a record states a position past the file's end, and as `Failed` if a read fails.
+/// It refuses as `Damaged` only if a pointer, a slot or a record states a position past the file's end, and as `Failed` only if a read
+/// fails.
 pub fn has_no_other<F: ReadAt, K: Keys>(file: &F, keys: &K) -> Result<bool, Fault>
     ensures { (bytes : List ℕ) → F.content file.now ≡ Some bytes
-        → IfOk result (λ is. IsTrue is → (key : List ℕ) → IsSound (K.has keys.now) key (find_in bytes key)) }
+        → Judges (F.fails file.now) result ((key : List ℕ) → IsSound (K.has keys.now) key (find_in bytes key))
+        (HasOther (K.lacks keys.now) bytes) (IsCut bytes) ⊥ }
 {
     let mut room = [0; KEY_LIMIT];
     are_sound_tables(file, keys, &mut room)
@@ -33,8 +42,10 @@ pub fn has_no_other<F: ReadAt, K: Keys>(file: &F, keys: &K) -> Result<bool, Faul
 
 // Returns the same, with room for a key.
 fn are_sound_tables<F: ReadAt, K: Keys>(file: &F, keys: &K, room: &mut [u8]) -> Result<bool, Fault>
+    requires { length room.old ≡ KEY_LIMIT }
     ensures { (bytes : List ℕ) → F.content file.now ≡ Some bytes
-        → IfOk result (λ is. IsTrue is → (key : List ℕ) → IsSound (K.has keys.now) key (find_in bytes key)) }
+        → Judges (F.fails file.now) result ((key : List ℕ) → IsSound (K.has keys.now) key (find_in bytes key))
+        (HasOther (K.lacks keys.now) bytes) (IsCut bytes) ⊥ }
 {
     for table in 0..TABLES {
         if !is_sound_table(file, keys, table, room)? {
@@ -51,8 +62,10 @@ fn is_sound_table<F: ReadAt, K: Keys>(
     table: u32,
     room: &mut [u8],
 ) -> Result<bool, Fault>
+    requires { length room.old ≡ KEY_LIMIT }
     ensures { (bytes : List ℕ) → F.content file.now ≡ Some bytes
-        → IfOk result (λ is. IsTrue is → IsSoundTable (K.has keys.now) bytes table) }
+        → Judges (F.fails file.now) result (IsSoundTable (K.has keys.now) bytes table)
+        (IsOtherTable (K.lacks keys.now) bytes table) (IsCutTable bytes table) ⊥ }
 {
     let (start, slots) = pair_at(file, u64::from(table) * PAIR_SIZE)?;
     are_sound_slots(file, keys, start, slots, room)
@@ -66,8 +79,11 @@ fn are_sound_slots<F: ReadAt, K: Keys>(
     slots: u32,
     room: &mut [u8],
 ) -> Result<bool, Fault>
+    requires { length room.old ≡ KEY_LIMIT }
     ensures { (bytes : List ℕ) → F.content file.now ≡ Some bytes
-        → IfOk result (λ is. IsTrue is → (slot : ℕ) → slot < slots → IsSoundSlot (K.has keys.now) bytes (start + PAIR_SIZE * slot)) }
+        → Judges (F.fails file.now) result ((slot : ℕ) → slot < slots → IsSoundSlot (K.has keys.now) bytes (start + PAIR_SIZE * slot))
+        ((slot : ℕ) × (slot < slots) × IsOtherSlot (K.lacks keys.now) bytes (start + PAIR_SIZE * slot))
+        ((slot : ℕ) × (slot < slots) × IsCutSlot bytes (start + PAIR_SIZE * slot)) ⊥ }
 {
     for slot in 0..slots {
         if !is_sound_slot(
@@ -89,8 +105,10 @@ fn is_sound_slot<F: ReadAt, K: Keys>(
     position: u64,
     room: &mut [u8],
 ) -> Result<bool, Fault>
+    requires { length room.old ≡ KEY_LIMIT }
     ensures { (bytes : List ℕ) → F.content file.now ≡ Some bytes
-        → IfOk result (λ is. IsTrue is → IsSoundSlot (K.has keys.now) bytes position) }
+        → Judges (F.fails file.now) result (IsSoundSlot (K.has keys.now) bytes position)
+        (IsOtherSlot (K.lacks keys.now) bytes position) (IsCutSlot bytes position) ⊥ }
 {
     let (_hash, at) = pair_at(file, position)?;
     if at == 0 {
@@ -106,8 +124,10 @@ fn is_sound_record<F: ReadAt, K: Keys>(
     at: u32,
     room: &mut [u8],
 ) -> Result<bool, Fault>
+    requires { length room.old ≡ KEY_LIMIT }
     ensures { (bytes : List ℕ) → F.content file.now ≡ Some bytes
-        → IfOk result (λ is. IsTrue is → IsSoundRecord (K.has keys.now) bytes at) }
+        → Judges (F.fails file.now) result (IsSoundRecord (K.has keys.now) bytes at)
+        (IsOtherRecord (K.lacks keys.now) bytes at) (IsCutRecord bytes at) ⊥ }
 {
     let (key_size, _size) = pair_at(file, u64::from(at))?;
     let size = key_size as usize;
@@ -125,7 +145,8 @@ fn is_sound_key<F: ReadAt, K: Keys>(
     room: &mut [u8],
 ) -> Result<bool, Fault>
     ensures { (bytes : List ℕ) → F.content file.now ≡ Some bytes
-        → IfOk result (λ is. IsTrue is → IsSoundKey (K.has keys.now) bytes position (length room.new)) }
+        → Judges (F.fails file.now) result (IsSoundKey (K.has keys.now) bytes position (length room.new))
+        (IsOtherKey (K.lacks keys.now) bytes position (length room.new)) (IsCutKey bytes position (length room.new)) ⊥ }
 {
     file.read_at(position, room)?;
     Ok(keys.contains(room))
