@@ -10,3 +10,4 @@ mod Parts
 mod Sources
 mod Answered
 mod Refusing
+mod Unwritten

@@ -9,16 +9,18 @@
 //! `AccountFile` is a `Lookup`: an account that it returns is what the file's octets say of its name. `realm_of` returns the realm that
 //! they say. Of octets in memory both refuse as damaged only if the octets are, and a damaged record is never a missing one.
 //! `write_accounts` returns only files whose octets say these accounts, no other account, and this realm. `write_records` does so of the
-//! accounts' records. `record_of_account` refuses only a name that is none of a principal, and `record_of_realm` only a realm that has no
-//! record (`is_recorded`), unless memory runs out. Each record is read as it was written (laws `account_as_written`, `realm_as_written`).
-//! The promises are of files whose octets stay as they are while they are open. Each reply of a `FileRealm` is that of the realm of one
-//! opened file, with all accounts of that file, where its octets are known (`RepliesFrom`). So a file that is replaced while a message is
-//! answered gives no mixture of two realms. Where they aren't known, it is that of some realm with some accounts (`IsRealmReply`). A
-//! message is refused as `Unreadable` only if it is no request, and as `Accounts` only if the file may not be opened or read, or is damaged
-//! for that message (`IsDamagedFor`). It is so at the realm's record, at an account that the message involves, and, if it asks by
-//! certificate, at what such logins are answered by. `answer_from` tells a failed read (`Failed`) from damage (`Damaged`). `means_in`
-//! refuses a key that is too weak, and one that isn't the certificate's. The fault is given to [`FaultReporter`] before the refusal is
-//! returned. What an observer sees is of the message, of its reply and of the opened file (`IsToldFrom`).
+//! accounts' records. Each refusal of theirs has its reason in the realm, the accounts or their records, unless memory runs out: a name or
+//! a realm that has no record, records of which one is too long or two neighbours clash, or 2^32 octets. `record_of_account` refuses only a
+//! name that is none of a principal, and `record_of_realm` only a realm that has no record (`is_recorded`), unless memory runs out. Each
+//! record is read as it was written (laws `account_as_written`, `realm_as_written`). The promises are of files whose octets stay as they
+//! are while they are open. Each reply of a `FileRealm` is that of the realm of one opened file, with all accounts of that file, where its
+//! octets are known (`RepliesFrom`). So a file that is replaced while a message is answered gives no mixture of two realms. Where they
+//! aren't known, it is that of some realm with some accounts (`IsRealmReply`). A message is refused as `Unreadable` only if it is no
+//! request, and as `Accounts` only if the file may not be opened or read, or is damaged for that message (`IsDamagedFor`). It is so at the
+//! realm's record, at an account that the message involves, and, if it asks by certificate, at what such logins are answered by.
+//! `answer_from` tells a failed read (`Failed`) from damage (`Damaged`). `means_in` refuses a key that is too weak, and one that isn't the
+//! certificate's. The fault is given to [`FaultReporter`] before the refusal is returned. What an observer sees is of the message, of its
+//! reply and of the opened file (`IsToldFrom`).
 #![tactic(auto)]
 
 mod account_file;

@@ -1,11 +1,10 @@
 //! Writing a file of accounts.
-ghost use Rattle.std.specs.Prelude.{◌≡◌, ◌⊎◌, false, List, Some, Ok, IfErr, IfOk, IsTrue, length};
+ghost use Rattle.std.specs.Prelude.{◌≡◌, ◌⊎◌, false, List, Some, Ok, IfErr, IfOk, IsTrue};
 ghost use Rattle.picky_asn1.specs.Bytes.{Bytes};
-ghost use Rattle.std.specs.List.{list_all};
+ghost use Rattle.std.specs.List.{Any, list_all};
 ghost use Rattle.krb_realm_accounts.specs.Names.{IsRealmName, are_components, is_realm_name};
-ghost use Rattle.krb_realm_files.specs.declared.format.TheConstants.{RECORD_ROOM};
 ghost use Rattle.krb_realm_files.specs.Files.{account_said, realm_key, realm_said};
-ghost use Rattle.krb_realm_files.specs.Named.{AreNamed, AreRecords, IsRealmRecord, IsRecordOf, look_among};
+ghost use Rattle.krb_realm_files.specs.Named.{AreNamed, AreRecords, IsAccountsFault, IsRealmRecord, IsRecordOf, IsRecordsFault, IsUnnamed, look_among};
 ghost use Rattle.krb_realm_files.specs.AccountRecords.{account_bytes, account_in};
 ghost use Rattle.krb_realm_files.specs.RealmRecords.{is_pkinit, is_recorded, realm_bytes, realm_in};
 
@@ -34,9 +33,10 @@ pub struct NamedAccount {
 /// differs, and there by the first character that differs. In the file each name has its account, no other name has one, and the realm
 /// is this realm.
 ///
-/// It refuses as `Unsound` if the realm has no record ([`record_of_realm`]), if a name of an account is none of a principal, if two accounts that
-/// differ have one name, if the accounts are not in the order of their names, or if an account's record has more than [`RECORD_ROOM`]
-/// octets. It refuses as `Large` if the file would have 2^32 octets or more, and as `Memory` if memory runs out.
+/// It refuses as `Unsound` only if the realm has no record ([`record_of_realm`]), if a name of an account is none of a principal, or if its
+/// records are none of a database: two accounts that differ have one name, the accounts are not in the order of their names, or a record
+/// has more than [`RECORD_ROOM`] octets. It refuses as `Large` only if the file would have 2^32 octets or more, and as `Memory` if memory
+/// runs out.
 pub fn write_accounts(
     alloc: Global,
     realm: &RealmParameters,
@@ -45,6 +45,7 @@ pub fn write_accounts(
     ensures names { IfOk result (λ _. AreNamed accounts.now) }
     ensures accounts { IfOk result (λ bytes. (name : List Bytes) → account_said bytes.items name ≡ Ok (look_among accounts.now name)) }
     ensures realm { IfOk result (λ bytes. realm_said bytes.items ≡ Ok realm.now) }
+    ensures refusal { IfErr result (λ fault. IsAccountsFault realm.now accounts.now fault) }
 {
     let records = records_of(alloc, accounts)?;
     let bytes = write_records(alloc, realm, records)?;
@@ -58,37 +59,23 @@ pub fn write_accounts(
 pub fn write_records(
     alloc: Global,
     realm: &RealmParameters,
-    records: Vec<Record>,
-) -> Result<Vec<u8>, WriteFault>
-    ensures accounts { IfOk result (λ bytes. (accounts : List NamedAccount) → AreRecords accounts records.items
-        → (name : List Bytes) → account_said bytes.items name ≡ Ok (look_among accounts name)) }
-    ensures realm { IfOk result (λ bytes. (accounts : List NamedAccount) → AreRecords accounts records.items → realm_said bytes.items ≡ Ok realm.now) }
-{
-    let mut room = [0; RECORD_ROOM];
-    write_within(alloc, realm, records, &mut room)
-}
-
-// Returns the same, with room for a record.
-fn write_within(
-    alloc: Global,
-    realm: &RealmParameters,
     mut records: Vec<Record>,
-    room: &mut [u8],
 ) -> Result<Vec<u8>, WriteFault>
-    requires { length room.old ≡ RECORD_ROOM }
     ensures accounts { IfOk result (λ bytes. (accounts : List NamedAccount) → AreRecords accounts records.items
         → (name : List Bytes) → account_said bytes.items name ≡ Ok (look_among accounts name)) }
     ensures realm { IfOk result (λ bytes. (accounts : List NamedAccount) → AreRecords accounts records.items → realm_said bytes.items ≡ Ok realm.now) }
+    ensures refusal { IfErr result (λ fault. IsRecordsFault realm.now records.items fault) }
 {
     let own = record_of_realm(alloc, realm)?;
     records.push(own)?;
-    let bytes = write(alloc, &records, room)?;
+    let bytes = write(alloc, &records, RECORD_ROOM)?;
     Ok(bytes)
 }
 
 // Returns the records of the accounts.
 fn records_of(alloc: Global, accounts: &[NamedAccount]) -> Result<Vec<Record>, WriteFault>
-    ensures { IfOk result (λ records. AreRecords accounts.now records.items) }
+    ensures made { IfOk result (λ records. AreRecords accounts.now records.items) }
+    ensures refusal { IfErr result (λ e. (e ≡ WriteFault.Memory) ⊎ ((e ≡ WriteFault.Unsound) × Any IsUnnamed accounts.now)) }
 {
     let mut records = Vec::new(alloc);
     for one in accounts {

@@ -47,8 +47,7 @@ pub(crate) fn is_judged<F: ReadAt>(file: &F, records: &[Record], outcome: &str) 
 
 /// Returns whether the file of these records is this one, octet by octet, or is refused by this word.
 pub(crate) fn is_written(alloc: Global, records: &[Record], bytes: &[u8], outcome: &str) -> bool {
-    let mut room = [0; ROOM];
-    match write(alloc, records, &mut room) {
+    match write(alloc, records, ROOM) {
         Ok(written) => outcome == "equal" && written.as_slice() == bytes,
         Err(WriteFault::Large) => outcome == "large",
         Err(WriteFault::Unsound) => outcome == "unsound",
