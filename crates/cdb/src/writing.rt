@@ -23,7 +23,7 @@ pub enum WriteFault {
     Large,
     /// No file answers as the records do: two records have one key and other data, a key or its data are too long, or the records are
     /// not in the order of their keys.
-    #[error("the database does not answer as its records do")]
+    #[error("a record is too long, or two records are out of order or have one key")]
     Unsound,
     /// Memory ran out.
     #[error("out of memory")]
