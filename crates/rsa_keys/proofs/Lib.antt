@@ -1,6 +1,7 @@
 pub mod Elements
 pub mod Found
 pub mod Groups
+pub mod RightKeys
 mod Signs
 pub mod Shared
 mod Usable

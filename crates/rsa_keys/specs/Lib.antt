@@ -8,3 +8,4 @@ pub mod Functions
 pub mod OwnKeys
 pub mod Signatures
 pub mod PrivateKeys
+pub mod PrivateNumbers

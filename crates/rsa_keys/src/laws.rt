@@ -3,10 +3,14 @@ ghost use Rattle.std.specs.Prelude.{◌≡◌, Ok, Some};
 ghost use Rattle.picky_asn1_der.specs.Raw.{Raw};
 ghost use Rattle.picky_asn1.specs.Bytes.{Bytes};
 ghost use Rattle.x509_keys.specs.declared.functions.Signed.{Signed};
+ghost use Rattle.x509_keys.specs.declared.rsa_private_key.RsaPrivateKey.{RsaPrivateKey};
 ghost use Rattle.x509_keys.specs.declared.subject_public_key_info.SubjectPublicKeyInfo.{SubjectPublicKeyInfo};
 ghost use Rattle.x509_keys.specs.KeyFunctions.TheirValue.{WholeValue};
+ghost use Rattle.x509_keys.specs.SignedBy.{signed_by};
 ghost use Rattle.rsa_keys.specs.Agreements.{IsAgreed, IsOfGroup, agreed, own_value};
 ghost use Rattle.rsa_keys.specs.Functions.{IsPublicPart, signed_by_own};
+ghost use Rattle.rsa_keys.specs.PrivateKeys.{IsOwnKeyOf};
+ghost use Rattle.rsa_keys.specs.PrivateNumbers.{IsRightKey, signature_by};
 ghost use Rattle.rsa_keys.specs.Signatures.{checked};
 
 use crate::own_key::OwnKey;
@@ -16,6 +20,15 @@ use public_key_cryptography::Group;
 pub fn signed_is_verified(own: &OwnKey)
     ensures { (key : SubjectPublicKeyInfo) (text : Bytes) (made : Signed)
         → IsPublicPart own.now key → signed_by_own own.now text ≡ Some made → checked key made.algorithm text made.signature ≡ Ok tt }
+{
+    let _public = own.public();
+}
+
+/// The own key of a right private key signs each text, with its primes or without them: the signature is that of modulus and private
+/// exponent (RFC 8017, section 8.2.1).
+pub fn right_key_signs(own: &OwnKey)
+    ensures { (key : RsaPrivateKey) (text : Bytes) → IsOwnKeyOf key own.now → IsRightKey key
+        → signed_by_own own.now text ≡ Some (signed_by own.now.algorithm (signature_by key text)) }
 {
     let _public = own.public();
 }

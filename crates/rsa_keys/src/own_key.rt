@@ -6,8 +6,9 @@ ghost use Rattle.modular_arithmetic.specs.Moduli.{value_of};
 ghost use Rattle.modular_arithmetic.specs.Naturals.{os2ip};
 ghost use Rattle.public_key_cryptography.specs.Keys.{refusal_of};
 ghost use Rattle.public_key_cryptography.specs.Pkcs1.{IsKeyOf};
-ghost use Rattle.public_key_cryptography.specs.Primes.{fits};
+ghost use Rattle.public_key_cryptography.specs.PrimeSizes.{fits};
 ghost use Rattle.rsa_keys.specs.OwnKeys.{IsUsable, has_naturals, is_sha256, is_taken, key_refusal};
+ghost use Rattle.rsa_keys.specs.PrivateNumbers.{AreNumbersOf, HaveNumbers};
 ghost use Rattle.rsa_keys.specs.Signatures.{refusal_named};
 
 use crate::refusal::RsaKeyRefusal;
@@ -84,8 +85,10 @@ impl OwnKey {
 
     // This key, which then signs by the primes of these numbers if they are taken.
     fn by_numbers(self, numbers: PrimeNumbers) -> OwnKey
+        requires { self.private.primes ≡ None }
         ensures public { result.public ≡ self.public }
         ensures exponent { result.private.exponent ≡ self.private.exponent }
+        ensures primes { HaveNumbers numbers result.private.primes }
     {
         match Primes::new(numbers) {
             Ok(primes) => self.with_primes(primes),
@@ -149,7 +152,9 @@ fn public_part(key: &RsaPrivateKey) -> Result<RsaPublicKey, AllocError>
 }
 
 /// The primes of a private key, and what goes with them.
-fn prime_numbers(alloc: Global, key: &RsaPrivateKey) -> Result<PrimeNumbers, AllocError> {
+fn prime_numbers(alloc: Global, key: &RsaPrivateKey) -> Result<PrimeNumbers, AllocError>
+    ensures { IfOk result (λ numbers. AreNumbersOf key.now numbers) }
+{
     let prime1 = octets_of(alloc, &key.prime_1)?;
     let prime2 = octets_of(alloc, &key.prime_2)?;
     let exponent1 = octets_of(alloc, &key.exponent_1)?;
