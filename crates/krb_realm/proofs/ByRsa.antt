@@ -19,19 +19,20 @@ use Rattle.rsa_keys.specs.Values.{is_value, value_element}
 use Rattle.rsa_keys.specs.Agreements.{IsAgreed, own_number, own_value}
 use Rattle.rsa_keys.specs.Functions.{rsa_functions}
 use Rattle.rsa_keys.specs.declared.own_key.OwnKey.{OwnKey}
+use Rattle.rsa_keys.proofs.RightKeys.{right-made}
 use Rattle.rsa_keys.proofs.Shared.{taken}
 use Rattle.rsa_keys.proofs.Verified.{signed_valid}
 use Rattle.krb_realm.specs.HonestByRsa.{IsCertified, IsHonestByRsa}
 use Rattle.krb_realm.proofs.PublicKeys.{is_public_key, key_of}
 
 -- what the party signs verifies under its certificate's key
-trusted : (group : Group) (own other : OwnKey) (expected : ExpectedRecord) (certificate : Bytes) (IsText : Bytes → Type 0) → IsCertified group own other expected certificate IsText
+trusted : (group : Group) (own other : OwnKey) (expected : ExpectedRecord) (certificate : Bytes) (IsText : Bytes → Type 0) → IsCertified group own other expected certificate
     → IsTrusted (rsa_functions group (Some own)) (rsa_functions group (Some other)) expected certificate IsText
 trusted group own other expected certificate IsText h = record {
   read = h.read;
   accepts = h.accepts;
   signs = λ text is.
-      let made = h.signs text is in
+      let made = right-made own text h.right in
       (made.0, made.1, ap (λ answer. is_ok answer) (signed_valid own h.read.certificate.tbs_certificate.subject_public_key_info text made.0 h.is_own made.1));
 }
 

@@ -6,32 +6,31 @@ use Rattle.public_key_cryptography.specs.declared.group.Group.{Group}
 use Rattle.krb_client.specs.Asked.{agreement_part}
 use Rattle.krb_client.specs.Client.{ClientRecord}
 use Rattle.krb_service.specs.Service.{ServiceRecord}
-use Rattle.krb_logins.specs.Authenticated.{first_body}
 use Rattle.krb_logins.specs.Honest.{IsHonestLogin}
 use Rattle.krb_logins.specs.Parties.{LoginRecord, RealmRecord, RememberedRecord}
-use Rattle.x509_keys.specs.declared.functions.Signed.{Signed}
 use Rattle.pkinit_validation.specs.Anchors.{AnchorRecord}
 use Rattle.pkinit_validation.specs.Certificates.{ReadRecord}
 use Rattle.pkinit_validation.specs.Expected.{ExpectedRecord}
 use Rattle.pkinit_validation.specs.AgreementBytes.{agreement_bytes}
 use Rattle.pkinit_validation.specs.Trust.{TrustRecord}
-use Rattle.krb_realm.specs.Agreements.{IsAcceptedFor, IsKeyInfoText, IsPackText}
+use Rattle.krb_realm.specs.Agreements.{IsAcceptedFor}
 use Rattle.krb_realm.specs.HonestByCertificate.{client_under, realm_under}
-use Rattle.rsa_keys.specs.Agreements.{own_bits, own_value}
-use Rattle.rsa_keys.specs.Functions.{IsPublicPart, rsa_functions, signed_by_own}
+use Rattle.public_key_cryptography.specs.RightKeys.{IsRight}
+use Rattle.rsa_keys.specs.Agreements.{own_value}
+use Rattle.rsa_keys.specs.Functions.{IsPublicPart, rsa_functions}
 use Rattle.rsa_keys.specs.declared.own_key.OwnKey.{OwnKey}
 
--- the other party accepts the certificate as that of the expected principal, whose key is the party's own. The party has a signature
--- of each such text
-pub record IsCertified (group : Group) (own other : OwnKey) (expected : ExpectedRecord) (certificate : Bytes) (IsText : Bytes → Type 0) : Type 0 where
+-- the other party accepts the certificate as that of the expected principal, whose key is the party's own. The numbers of the own key
+-- belong together, so it signs each text (law `right_key_signs`)
+pub record IsCertified (group : Group) (own other : OwnKey) (expected : ExpectedRecord) (certificate : Bytes) : Type 0 where
   pub read : ReadRecord
   pub accepts : IsAcceptedFor (rsa_functions group (Some other)) expected certificate read
   pub is_own : IsPublicPart own read.certificate.tbs_certificate.subject_public_key_info
-  pub signs : (text : Bytes) → IsText text → (made : Signed) × (signed_by_own own text ≡ Some made)
+  pub right : IsRight own.private
 
 -- an honest login by RSA certificates: the parties know one another and their clocks are near. The random bytes of each give a public
 -- value of the group. The realm has an anchor and a certificate of its own. Each accepts the other's certificate under its own anchor.
--- In this login the client signs the AuthPack and the realm the KDCDHKeyInfo
+-- By its own key the client signs the AuthPack and the realm the KDCDHKeyInfo
 pub record IsHonestByRsa (group : Group) (client : ClientRecord) (certificate : Bytes) (anchor : AnchorRecord) (client_own : OwnKey) (realm : RealmRecord) (trust : TrustRecord)
     (realm_own : OwnKey) (service : ServiceRecord) (before : RememberedRecord) (login : LoginRecord) : Type 0 where
   pub honest : IsHonestLogin client realm service before login
@@ -44,6 +43,4 @@ pub record IsHonestByRsa (group : Group) (client : ClientRecord) (certificate : 
   pub own : Bytes
   pub has_own : trust.certificate ≡ Some own
   pub client_certified : IsCertified group client_own realm_own (client_under realm_anchor client realm login) certificate
-      (IsPackText (first_body client login) login.client_as client_value)
   pub realm_certified : IsCertified group realm_own client_own (realm_under anchor client login) own
-      (IsKeyInfoText (own_bits group (agreement_bytes login.realm_words_as)) (first_body client login).nonce.0)

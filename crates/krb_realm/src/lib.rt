@@ -16,7 +16,8 @@
 //! `IsHonestByCertificate` requires of the key functions that, in this login, each party accepts the other's certificate and
 //! signature, and both come to one secret.
 //! [`one_key_by_rsa`] is this law for the key functions of `rsa_keys`. Its premises speak of certificates, names and clocks, and of
-//! signatures and public values that are made. That signatures verify, and that both come to one secret, is no premise there.
+//! right keys and public values that are made. That a party signs, that its signature verifies, and that both come to one secret, is no
+//! premise there.
 #![tactic(auto)]
 
 mod certified_honesty;
