@@ -57,7 +57,7 @@ module _ (replies : Option Bytes → Type 0) (holds : Look → Type 0) (realm me
       → MayRefuse (FailsFor holds (λ name given. ⊥) realm message) message refusal → IsAnswer replies (Err given)
   refused refusal given same is may = subst (λ g. IsAnswer replies (Err g)) (sym same) (refused_by refusal is may)
 
-pub begins : (may : LookupFault → Type 0) (message : Bytes) (refusal : LookupRefusal) (given : AnswerRefusal) → given ≡ refusal_of refusal → MayRefuse may message refusal → given ≡ Memory
-    → BeginsRequest message
-begins may message Unreadable given same refuses memory = absurd (cc (same, memory))
-begins may message (Fault fault) given same refuses memory = refuses.0
+pub begins : (holds : Look → Type 0) (realm message : Bytes) (refusal : LookupRefusal) (given : AnswerRefusal) → given ≡ refusal_of refusal
+    → MayRefuse (FailsFor holds (λ name given. ⊥) realm message) message refusal → given ≡ Memory → BeginsRequest message
+begins holds realm message Unreadable given same refuses memory = absurd (cc (same, memory))
+begins holds realm message (Fault fault) given same refuses memory = refuses.0

@@ -20,4 +20,5 @@ returns-in-Err-clause-answer g c =
     c.in-Err.ensures.refusal
 
 pub returns-in-Err-clause-memory : goal.returns-in-Err-clause-memory
-returns-in-Err-clause-memory g c = begins _ c.args.message.now c.in-Err.refusal _ c.refusal_of.ensures c.in-Err.ensures.refusal
+returns-in-Err-clause-memory g c =
+    begins (λ all. look_in c.self.inside.accounts ≡ all) _ c.args.message.now c.in-Err.refusal _ c.refusal_of.ensures c.in-Err.ensures.refusal
