@@ -15,18 +15,18 @@ use Rattle.cdb.proofs.Answering.{itself}
 use Rattle.cdb.proofs.Sound.{same_list}
 
 module _ (fails : ErrorKind → Type 0) where
-  pub judged : (result : Result Bool Fault) (Y N D L Y2 N2 D2 L2 : Type 0) → Judges fails result Y N D L → (Y → Y2) → (N → N2) → (D → D2) → (L → L2) → Judges fails result Y2 N2 D2 L2
-  judged (Ok true) Y N D L Y2 N2 D2 L2 h y n d l = y h
-  judged (Ok false) Y N D L Y2 N2 D2 L2 h y n d l = n h
-  judged (Err (Failed kind)) Y N D L Y2 N2 D2 L2 h y n d l = h
-  judged (Err Damaged) Y N D L Y2 N2 D2 L2 h y n d l = d h
-  judged (Err Long) Y N D L Y2 N2 D2 L2 h y n d l = l h
+  pub judged : (result : Result Bool Fault) (Y N D L OtherY OtherN OtherD OtherL : Type 0) → Judges fails result Y N D L → (Y → OtherY) → (N → OtherN) → (D → OtherD) → (L → OtherL) → Judges fails result OtherY OtherN OtherD OtherL
+  judged (Ok true) Y N D L OtherY OtherN OtherD OtherL h y n d l = y h
+  judged (Ok false) Y N D L OtherY OtherN OtherD OtherL h y n d l = n h
+  judged (Err (Failed kind)) Y N D L OtherY OtherN OtherD OtherL h y n d l = h
+  judged (Err Damaged) Y N D L OtherY OtherN OtherD OtherL h y n d l = d h
+  judged (Err Long) Y N D L OtherY OtherN OtherD OtherL h y n d l = l h
 
   -- a refusal of one step is the whole's
-  pub judged_err : (fault : Fault) (Y N D L Y2 N2 D2 L2 : Type 0) → Judges fails (Err fault) Y N D L → (D → D2) → (L → L2) → Judges fails (Err fault) Y2 N2 D2 L2
-  judged_err (Failed kind) Y N D L Y2 N2 D2 L2 h d l = h
-  judged_err Damaged Y N D L Y2 N2 D2 L2 h d l = d h
-  judged_err Long Y N D L Y2 N2 D2 L2 h d l = l h
+  pub judged_err : (fault : Fault) (Y N D L OtherY OtherN OtherD OtherL : Type 0) → Judges fails (Err fault) Y N D L → (D → OtherD) → (L → OtherL) → Judges fails (Err fault) OtherY OtherN OtherD OtherL
+  judged_err (Failed kind) Y N D L OtherY OtherN OtherD OtherL h d l = h
+  judged_err Damaged Y N D L OtherY OtherN OtherD OtherL h d l = d h
+  judged_err Long Y N D L OtherY OtherN OtherD OtherL h d l = l h
 
   pub judged_yes : (is : Bool) (Y N D L : Type 0) → Judges fails (Ok is) Y N D L → is ≡ true → Y
   judged_yes true Y N D L h e = h
