@@ -13,8 +13,8 @@ use std::fmt;
 const DAYS_BEFORE_ZERO: u32 = 3_652_059;
 
 /// A time to the second in UTC, on the proleptic Gregorian calendar, in the years 0 to 9999 (X.680, section 46,
-/// RFC 4120, section 5.2.3). A leap second is none.
-#[derive(Clone, Copy, Debug, PartialEq, Eq)]
+/// RFC 4120, section 5.2.3). A leap second is none. The earlier time is less.
+#[derive(Clone, Copy, Debug, PartialEq, Eq, PartialOrd, Ord, Hash)]
 pub struct GeneralizedTime {
     /// The year, 0 to 9999.
     pub year: u16,

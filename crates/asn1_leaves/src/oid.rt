@@ -9,7 +9,9 @@ use crate::LeafFault;
 use crate::dotted::read_arcs;
 use crate::number::{are_numbers, push_number, take_number};
 use std::alloc::{AllocError, Global};
+use std::cmp::Ordering;
 use std::fmt;
+use std::hash::{Hash, Hasher};
 use std::marker::Model;
 
 /// An OBJECT IDENTIFIER (X.690, section 8.19), of which each number that is written is below 2^64. A contract sees the
@@ -139,6 +141,55 @@ impl Eq for ObjectIdentifier {
     ghost use Rattle.std.proofs.lemmas.Cmp.{nat_list_eq_equiv};
 
     ghost laws = { nat_list_eq_equiv };
+}
+
+impl PartialOrd for ObjectIdentifier {
+    ghost use Rattle.std.specs.Prelude.{Some};
+    ghost use Rattle.std.specs.Ordering.{nat_cmp};
+    ghost use Rattle.std.specs.Cmp.Lexicographic.{slice_cmp, texts_po};
+
+    ghost partial_cmp = { λ a b. Some (slice_cmp nat_cmp a b) };
+
+    ghost laws = { texts_po };
+
+    fn partial_cmp(&self, other: &ObjectIdentifier) -> Option<Ordering> {
+        Some(self.cmp(other))
+    }
+}
+
+/// Compares two values by their arcs. The first arcs that differ decide; where there are none, the one with fewer arcs is less.
+impl Ord for ObjectIdentifier {
+    ghost use Rattle.std.specs.Prelude.{refl};
+    ghost use Rattle.std.specs.Ordering.{nat_cmp};
+    ghost use Rattle.std.specs.Cmp.Lexicographic.{slice_cmp, nat_list_cmp_total, texts_ties};
+
+    ghost cmp = { slice_cmp nat_cmp };
+
+    ghost total = { nat_list_cmp_total };
+
+    ghost matches_partial_cmp = { λ a b. refl };
+
+    ghost matches_eq = { texts_ties };
+
+    fn cmp(&self, other: &ObjectIdentifier) -> Ordering {
+        self.arcs().cmp(other.arcs())
+    }
+}
+
+/// Hashes the content octets.
+impl Hash for ObjectIdentifier {
+    ghost use Rattle.std.specs.Hash as fed;
+    ghost use Rattle.std.specs.Cmp.Lexicographic.{bytes_decides};
+    ghost use Rattle.std.proofs.Common.{ap};
+    ghost use Rattle.asn1_leaves.specs.ObjectIdentifier.{oid_content};
+
+    ghost hash_input = { λ oid. fed.slice fed.u8 (oid_content oid) };
+
+    ghost respects_eq = { λ a b e. ap (λ oid. fed.slice fed.u8 (oid_content oid)) ((bytes_decides a b).0 e) };
+
+    fn hash<H: Hasher>(&self, state: &mut H) {
+        self.as_bytes().hash(state);
+    }
 }
 
 impl fmt::Display for ObjectIdentifier {

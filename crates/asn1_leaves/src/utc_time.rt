@@ -8,8 +8,8 @@ use crate::date::GeneralizedTime;
 use std::fmt;
 
 /// A time to the second in UTC in the years 1950 to 2049, of which two digits are written (X.690, section 11.8, and
-/// RFC 5280, section 4.1.2.5.1). A leap second is none.
-#[derive(Clone, Copy, Debug, PartialEq, Eq)]
+/// RFC 5280, section 4.1.2.5.1). A leap second is none. The earlier time is less.
+#[derive(Clone, Copy, Debug, PartialEq, Eq, PartialOrd, Ord, Hash)]
 pub struct UTCTime {
     /// The time with its whole year.
     pub time: GeneralizedTime,
