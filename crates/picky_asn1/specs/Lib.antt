@@ -3,9 +3,11 @@ pub use Rattle.asn1_leaves.specs.CharSets
 pub use Rattle.asn1_leaves.specs.GeneralizedTime
 pub mod Bytes
 pub mod BitString
+pub mod BitStringHash
 pub mod BitStringLaws
 pub mod FewOctets
 pub mod Integer
 pub mod IntegerLaws
+pub mod IntegerOrder
 pub mod IntegerText
 pub mod Numbers

@@ -6,6 +6,8 @@ ghost use Rattle.asn1_leaves.specs.Makes.{Makes, Decodes};
 
 use crate::LeafFault;
 use std::alloc::{AllocError, Global};
+use std::cmp::Ordering;
+use std::hash::{Hash, Hasher};
 use std::marker::Model;
 
 /// A BIT STRING (X.690, sections 8.6 and 11.2). A contract sees its octets and how many bits of the last are unused.
@@ -175,6 +177,64 @@ impl Eq for BitStringAsn1 {
     ghost use Rattle.std.proofs.Common.{rules};
 
     ghost laws = { Prim.search (comparing, rules) };
+}
+
+impl PartialOrd for BitStringAsn1 {
+    ghost use Rattle.std.specs.Prelude.{Some};
+    ghost use Rattle.std.specs.Ordering.{nat_cmp};
+    ghost use Rattle.std.specs.Cmp.{on_po};
+    ghost use Rattle.std.specs.Cmp.Lexicographic.{slice_cmp, texts_po};
+    ghost use Rattle.picky_asn1.specs.BitString.{bit_content};
+
+    ghost partial_cmp = { λ a b. Some (slice_cmp nat_cmp (bit_content a) (bit_content b)) };
+
+    ghost laws = { on_po bit_content texts_po };
+
+    fn partial_cmp(&self, other: &BitStringAsn1) -> Option<Ordering> {
+        Some(self.cmp(other))
+    }
+}
+
+/// Compares two values by the order of their content octets: the fewer unused bits are less, and the order of the octets decides between
+/// equally many.
+impl Ord for BitStringAsn1 {
+    ghost use Rattle.std.specs.Prelude.{refl};
+    ghost use Rattle.std.specs.Ordering.{nat_cmp};
+    ghost use Rattle.std.specs.Cmp.{on_total};
+    ghost use Rattle.std.specs.Cmp.Lexicographic.{slice_cmp, nat_list_cmp_total, texts_ties};
+    ghost use Rattle.picky_asn1.specs.BitString.{bit_content};
+
+    ghost cmp = { λ a b. slice_cmp nat_cmp (bit_content a) (bit_content b) };
+
+    ghost total = { on_total bit_content nat_list_cmp_total };
+
+    ghost matches_partial_cmp = { λ a b. refl };
+
+    ghost matches_eq = { λ a b. texts_ties (bit_content a) (bit_content b) };
+
+    fn cmp(&self, other: &BitStringAsn1) -> Ordering {
+        let unused = self.unused.cmp(&other.unused);
+        unused.then(self.as_bytes().cmp(other.as_bytes()))
+    }
+}
+
+/// Hashes the number of unused bits and the octets.
+impl Hash for BitStringAsn1 {
+    ghost use Rattle.std.specs.Hash as fed;
+    ghost use Rattle.std.specs.Cmp.Lexicographic.{bytes_decides};
+    ghost use Rattle.std.proofs.Common.{ap};
+    ghost use Rattle.picky_asn1.specs.BitString.{bit_content};
+    ghost use Rattle.picky_asn1.specs.BitStringHash.{bits_hash};
+    ghost use Rattle.picky_asn1.specs.BitStringLaws.{bit_content-injective};
+
+    ghost hash_input = { bits_hash };
+
+    ghost respects_eq = { λ a b e. ap bits_hash (bit_content-injective a b ((bytes_decides (bit_content a) (bit_content b)).0 e)) };
+
+    fn hash<H: Hasher>(&self, state: &mut H) {
+        self.unused.hash(state);
+        self.as_bytes().hash(state);
+    }
 }
 
 fn is_bit_string(octets: &[u8], unused: u8) -> bool

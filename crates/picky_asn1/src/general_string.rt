@@ -6,7 +6,9 @@ ghost use Rattle.asn1_leaves.specs.Makes.{Makes, Decodes};
 use crate::LeafFault;
 use crate::restricted_string::{GeneralCharSet, RestrictedString};
 use std::alloc::{AllocError, Global};
+use std::cmp::Ordering;
 use std::fmt;
+use std::hash::{Hash, Hasher};
 use std::marker::Model;
 
 /// A GeneralString of characters below 128, the only ones that Kerberos has in it (RFC 4120, section 5.2.1). A
@@ -109,4 +111,52 @@ impl Eq for GeneralStringAsn1 {
     ghost use Rattle.std.proofs.lemmas.Cmp.{nat_list_eq_equiv};
 
     ghost laws = { nat_list_eq_equiv };
+}
+
+impl PartialOrd for GeneralStringAsn1 {
+    ghost use Rattle.std.specs.Prelude.{Some};
+    ghost use Rattle.std.specs.Ordering.{nat_cmp};
+    ghost use Rattle.std.specs.Cmp.Lexicographic.{slice_cmp, texts_po};
+
+    ghost partial_cmp = { λ a b. Some (slice_cmp nat_cmp a b) };
+
+    ghost laws = { texts_po };
+
+    fn partial_cmp(&self, other: &GeneralStringAsn1) -> Option<Ordering> {
+        Some(self.cmp(other))
+    }
+}
+
+/// Compares two values by the order of their octets.
+impl Ord for GeneralStringAsn1 {
+    ghost use Rattle.std.specs.Prelude.{refl};
+    ghost use Rattle.std.specs.Ordering.{nat_cmp};
+    ghost use Rattle.std.specs.Cmp.Lexicographic.{slice_cmp, nat_list_cmp_total, texts_ties};
+
+    ghost cmp = { slice_cmp nat_cmp };
+
+    ghost total = { nat_list_cmp_total };
+
+    ghost matches_partial_cmp = { λ a b. refl };
+
+    ghost matches_eq = { texts_ties };
+
+    fn cmp(&self, other: &GeneralStringAsn1) -> Ordering {
+        self.as_bytes().cmp(other.as_bytes())
+    }
+}
+
+/// Hashes the octets.
+impl Hash for GeneralStringAsn1 {
+    ghost use Rattle.std.specs.Hash as fed;
+    ghost use Rattle.std.specs.Cmp.Lexicographic.{bytes_decides};
+    ghost use Rattle.std.proofs.Common.{ap};
+
+    ghost hash_input = { λ octets. fed.slice fed.u8 octets };
+
+    ghost respects_eq = { λ a b e. ap (λ octets. fed.slice fed.u8 octets) ((bytes_decides a b).0 e) };
+
+    fn hash<H: Hasher>(&self, state: &mut H) {
+        self.as_bytes().hash(state);
+    }
 }

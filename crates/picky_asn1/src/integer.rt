@@ -8,6 +8,8 @@ ghost use Rattle.asn1_leaves.specs.Makes.{Makes};
 use crate::LeafFault;
 use crate::few_octets::FewOctets;
 use std::alloc::{AllocError, Global};
+use std::cmp::Ordering;
+use std::hash::{Hash, Hasher};
 use std::marker::Model;
 
 /// An INTEGER of any size and sign (X.690, section 8.3). A contract sees a whole number.
@@ -178,6 +180,52 @@ impl Eq for IntegerAsn1 {
     ghost use Rattle.std.proofs.Common.{rules};
 
     ghost laws = { Prim.search (comparing, rules) };
+}
+
+impl PartialOrd for IntegerAsn1 {
+    ghost use Rattle.picky_asn1.specs.IntegerOrder.{content_partial_cmp, content_order};
+
+    ghost partial_cmp = { content_partial_cmp };
+
+    ghost laws = { content_order };
+
+    fn partial_cmp(&self, other: &IntegerAsn1) -> Option<Ordering> {
+        Some(self.cmp(other))
+    }
+}
+
+/// Compares two values by the order of their content octets, which isn't that of the numbers.
+impl Ord for IntegerAsn1 {
+    ghost use Rattle.std.specs.Prelude.{refl};
+    ghost use Rattle.picky_asn1.specs.IntegerOrder.{content_cmp, content_total, content_ties};
+
+    ghost cmp = { content_cmp };
+
+    ghost total = { content_total };
+
+    ghost matches_partial_cmp = { λ y z. refl };
+
+    ghost matches_eq = { content_ties };
+
+    fn cmp(&self, other: &IntegerAsn1) -> Ordering {
+        self.as_signed_bytes_be().cmp(other.as_signed_bytes_be())
+    }
+}
+
+/// Hashes the content octets.
+impl Hash for IntegerAsn1 {
+    ghost use Rattle.std.specs.Hash as fed;
+    ghost use Rattle.std.specs.Cmp.{signed_Decides};
+    ghost use Rattle.std.proofs.Common.{ap};
+    ghost use Rattle.picky_asn1.specs.Integer.{integer_content};
+
+    ghost hash_input = { λ z. fed.slice fed.u8 (integer_content z) };
+
+    ghost respects_eq = { λ y z e. ap (λ z. fed.slice fed.u8 (integer_content z)) ((signed_Decides y z).0 e) };
+
+    fn hash<H: Hasher>(&self, state: &mut H) {
+        self.as_signed_bytes_be().hash(state);
+    }
 }
 
 // The octets after one that says that the number isn't negative.

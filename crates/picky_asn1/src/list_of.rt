@@ -6,6 +6,8 @@ use picky_asn1_der::{
     Asn1DerError, Deserialize, Deserializer, Elements, Serializer, Tagged, read_sequence,
 };
 use std::alloc::AllocError;
+use std::cmp::Ordering;
+use std::hash::{Hash, Hasher};
 use std::marker::Model;
 
 /// A list of values whose order is kept as given, with its identifier octet: a SEQUENCE OF (X.690, section 8.10) or a
@@ -67,6 +69,49 @@ impl<const OCTET: u8, T: Eq> Eq for ListOf<OCTET, T> {
     ghost use Rattle.std.specs.Cmp.Lexicographic.{lists_equiv};
 
     ghost laws = { lists_equiv T.Eq.laws };
+}
+
+impl<const OCTET: u8, T: PartialOrd> PartialOrd for ListOf<OCTET, T> {
+    ghost use Rattle.std.specs.Cmp.Lexicographic.{slice_partial_cmp, lists_po};
+
+    ghost partial_cmp = { slice_partial_cmp T.partial_cmp };
+
+    ghost laws = { lists_po T.PartialOrd.laws };
+
+    fn partial_cmp(&self, other: &Self) -> Option<Ordering> {
+        self.as_slice().partial_cmp(&other.as_slice())
+    }
+}
+
+/// Compares two lists by their values. The first values that differ decide; where there are none, the shorter list is less.
+impl<const OCTET: u8, T: Ord> Ord for ListOf<OCTET, T> {
+    ghost use Rattle.std.specs.Cmp.Lexicographic.{slice_cmp, lists_total, lists_agrees, lists_ties};
+
+    ghost cmp = { slice_cmp T.cmp };
+
+    ghost total = { lists_total T.total };
+
+    ghost matches_partial_cmp = { lists_agrees T.matches_partial_cmp };
+
+    ghost matches_eq = { lists_ties T.cmp T.matches_eq };
+
+    fn cmp(&self, other: &Self) -> Ordering {
+        self.as_slice().cmp(&other.as_slice())
+    }
+}
+
+/// Hashes the number of the values, and each value.
+impl<const OCTET: u8, T: Hash> Hash for ListOf<OCTET, T> {
+    ghost use Rattle.std.specs.Hash as fed;
+    ghost use Rattle.std.specs.Hash.{items_Alike};
+
+    ghost hash_input = { fed.slice T.hash_input };
+
+    ghost respects_eq = { (items_Alike (record { fed = T.respects_eq })).fed };
+
+    fn hash<H: Hasher>(&self, state: &mut H) {
+        self.as_slice().hash(state);
+    }
 }
 
 impl<const OCTET: u8, T: Deserialize + Drop> Tagged for ListOf<OCTET, T> {

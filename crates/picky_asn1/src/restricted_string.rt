@@ -7,6 +7,8 @@ pub use asn1_leaves::char_sets::{
     BmpCharSet, CharSet, GeneralCharSet, Ia5CharSet, PrintableCharSet, TextCharSet, Utf8CharSet,
 };
 use std::alloc::{AllocError, Global};
+use std::cmp::Ordering;
+use std::hash::{Hash, Hasher};
 use std::marker::{Model, PhantomData};
 use std::{fmt, str};
 
@@ -135,4 +137,52 @@ impl<C: CharSet> Eq for RestrictedString<C> {
     ghost use Rattle.std.proofs.lemmas.Cmp.{nat_list_eq_equiv};
 
     ghost laws = { nat_list_eq_equiv };
+}
+
+impl<C: CharSet> PartialOrd for RestrictedString<C> {
+    ghost use Rattle.std.specs.Prelude.{Some};
+    ghost use Rattle.std.specs.Ordering.{nat_cmp};
+    ghost use Rattle.std.specs.Cmp.Lexicographic.{slice_cmp, texts_po};
+
+    ghost partial_cmp = { λ a b. Some (slice_cmp nat_cmp a b) };
+
+    ghost laws = { texts_po };
+
+    fn partial_cmp(&self, other: &RestrictedString<C>) -> Option<Ordering> {
+        Some(self.cmp(other))
+    }
+}
+
+/// Compares two values by the order of their octets.
+impl<C: CharSet> Ord for RestrictedString<C> {
+    ghost use Rattle.std.specs.Prelude.{refl};
+    ghost use Rattle.std.specs.Ordering.{nat_cmp};
+    ghost use Rattle.std.specs.Cmp.Lexicographic.{slice_cmp, nat_list_cmp_total, texts_ties};
+
+    ghost cmp = { slice_cmp nat_cmp };
+
+    ghost total = { nat_list_cmp_total };
+
+    ghost matches_partial_cmp = { λ a b. refl };
+
+    ghost matches_eq = { texts_ties };
+
+    fn cmp(&self, other: &RestrictedString<C>) -> Ordering {
+        self.as_bytes().cmp(other.as_bytes())
+    }
+}
+
+/// Hashes the octets.
+impl<C: CharSet> Hash for RestrictedString<C> {
+    ghost use Rattle.std.specs.Hash as fed;
+    ghost use Rattle.std.specs.Cmp.Lexicographic.{bytes_decides};
+    ghost use Rattle.std.proofs.Common.{ap};
+
+    ghost hash_input = { λ octets. fed.slice fed.u8 octets };
+
+    ghost respects_eq = { λ a b e. ap (λ octets. fed.slice fed.u8 octets) ((bytes_decides a b).0 e) };
+
+    fn hash<H: Hasher>(&self, state: &mut H) {
+        self.as_bytes().hash(state);
+    }
 }

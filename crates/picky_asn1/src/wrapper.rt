@@ -46,7 +46,7 @@ pub type Asn1SequenceOf<T> = ListOf<0x30, T>;
 pub type Asn1SetOf<T> = ListOf<0x31, T>;
 
 /// An OBJECT IDENTIFIER (X.690, section 8.19).
-#[derive(Drop, Debug, PartialEq, Eq, Clone)]
+#[derive(Drop, Debug, PartialEq, Eq, PartialOrd, Ord, Hash, Clone)]
 pub struct ObjectIdentifierAsn1(pub ObjectIdentifier);
 
 impl From<ObjectIdentifier> for ObjectIdentifierAsn1 {
@@ -66,7 +66,7 @@ impl From<ObjectIdentifierAsn1> for ObjectIdentifier {
 }
 
 /// A UTCTime (X.690, section 11.8). Its content octets are the time's 13 characters.
-#[derive(Clone, Copy, Debug, PartialEq, Eq)]
+#[derive(Clone, Copy, Debug, PartialEq, Eq, PartialOrd, Ord, Hash)]
 pub struct UTCTimeAsn1(pub UTCTime);
 
 impl From<UTCTime> for UTCTimeAsn1 {
@@ -78,7 +78,7 @@ impl From<UTCTime> for UTCTimeAsn1 {
 }
 
 /// A GeneralizedTime (X.690, section 11.7). Its content octets are the time's 15 characters.
-#[derive(Clone, Copy, Debug, PartialEq, Eq)]
+#[derive(Clone, Copy, Debug, PartialEq, Eq, PartialOrd, Ord, Hash)]
 pub struct GeneralizedTimeAsn1(pub GeneralizedTime);
 
 impl From<GeneralizedTime> for GeneralizedTimeAsn1 {
