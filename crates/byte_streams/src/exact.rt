@@ -1,9 +1,9 @@
 //! Reads and writes that go on until all is moved.
-ghost use Rattle.std.specs.Prelude.{◌≡◌, ℕ, ◌≤◌, ◌<◌, length, take, Some, Err, IsTrue, IfOk, IfErr, OnOk, MatchResult};
+ghost use Rattle.std.specs.Prelude.{◌≡◌, ◌≢◌, ℕ, ◌≤◌, ◌<◌, length, take, Some, Err, IsTrue, IfOk, IfErr, OnOk, MatchResult};
 ghost use Rattle.std.specs.Io.KnownBytes.{Consumes, Appends, Keeps, IsAtEnd};
 ghost use Rattle.byte_streams.specs.Counting.{CountsRead};
 ghost use Rattle.byte_streams.specs.Whole.{after_whole_fault};
-ghost use Rattle.byte_streams.specs.Faults.{TellsWholeFault};
+ghost use Rattle.byte_streams.specs.Faults.{IsWholeRetried, TellsWholeFault};
 ghost use Rattle.byte_streams.specs.Room.{FitsRoom};
 
 use crate::sink::{Sink, SinkFault};
@@ -23,7 +23,7 @@ pub enum WholeFault {
 
 /// Fills `buffer` from `reader`, in as many reads as it takes, and gives how many bytes were read:
 /// fewer than there is room for only where the reader came to its end. Where a read failed, the
-/// bytes of the reads before it are at the front of `buffer`.
+/// bytes of the reads before it are at the front of `buffer`. A read that a signal interrupts is tried again.
 pub fn read_full<R: Source>(reader: &mut R, buffer: &mut [u8]) -> Result<usize, ErrorKind>
     ensures bound { IfOk result (λ n. n ≤ length buffer.new) }
     ensures bytes { IfOk result (λ n. Consumes (R.left reader.old) (R.left reader.new) (take n buffer.new)) }
@@ -31,6 +31,7 @@ pub fn read_full<R: Source>(reader: &mut R, buffer: &mut [u8]) -> Result<usize, 
     ensures front { IfErr result (λ _. (n : ℕ) × Consumes (R.left reader.old) (R.left reader.new) (take n buffer.new)) }
     ensures count { CountsRead (R.failed reader.old) (R.failed reader.new) result }
     ensures kind { IfErr result (λ kind. R.last_fault reader.new ≡ Some kind) }
+    ensures retried { IfErr result (λ kind. kind ≢ ErrorKind.Interrupted) }
     ensures same { R.through reader.new ≡ R.through reader.old }
 {
     let mut at = 0;
@@ -45,7 +46,7 @@ pub fn read_full<R: Source>(reader: &mut R, buffer: &mut [u8]) -> Result<usize, 
 }
 
 /// Writes all of `bytes`, in as many writes as it takes. If it stops early, a front of them is
-/// written: none if memory ran out.
+/// written: none if memory ran out. A write that a signal interrupts is tried again.
 pub fn write_whole<W: Sink>(writer: &mut W, bytes: &[u8]) -> Result<(), WholeFault>
     ensures ok { OnOk result (Appends (W.written writer.old) (W.written writer.new) bytes.now) }
     ensures front { IfErr result (λ _. (n : ℕ) × Appends (W.written writer.old) (W.written writer.new) (take n bytes.now)) }
@@ -54,6 +55,7 @@ pub fn write_whole<W: Sink>(writer: &mut W, bytes: &[u8]) -> Result<(), WholeFau
         (λ fault. W.failed writer.new ≡ after_whole_fault (W.failed writer.old) fault) }
     ensures room { FitsRoom (W.room writer.old) (W.room writer.new) result (length bytes.now) }
     ensures kind { IfErr result (TellsWholeFault (W.last_fault writer.new)) }
+    ensures retried { IfErr result IsWholeRetried }
     ensures same { W.through writer.new ≡ W.through writer.old }
 {
     let mut at = 0;

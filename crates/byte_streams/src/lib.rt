@@ -11,12 +11,12 @@
 //!
 //! [`read_full`] reads the next bytes of the source in their order, and fewer than there is room for only where the source ends. After
 //! `Ok`, [`write_whole`] has written all bytes, and after a fault the first of them. A fault is answered only where the device's count of
-//! failures rose or was at its maximum, and with the device's own kind if it named one. A refused growth is no failure of the device, and
-//! writes nothing. A [`PeekableReader`] gives the octet that was peeked at, and then the rest in order. [`put_at`] writes a part to its
-//! place, and changes no other byte. By the lemmas `put_all-laid` and `stands-put_apart` parts that lie apart all stand once each is put.
-//! `u16_be`, `u64_be`, `u32_le` and `u64_le` read the number at a place, and `.._bytes` are its bytes. [`read_front`] and [`read_to_stop`]
-//! take the next bytes of a source, and stop short only at its end or at a fault that it counted. [`write_bytes`] writes all bytes, or the
-//! first of them and says why it stopped.
+//! failures rose or was at its maximum, and with the device's own kind if it named one. No fault is `Interrupted`: such a call is tried
+//! again. A refused growth is no failure of the device, and writes nothing. A [`PeekableReader`] gives the octet that was peeked at, and
+//! then the rest in order. [`put_at`] writes a part to its place, and changes no other byte. By the lemmas `put_all-laid` and
+//! `stands-put_apart` parts that lie apart all stand once each is put. `u16_be`, `u64_be`, `u32_le` and `u64_le` read the number at a
+//! place, and `.._bytes` are its bytes. [`read_front`] and [`read_to_stop`] take the next bytes of a source, and stop short only at its end
+//! or at a fault that it counted. [`write_bytes`] writes all bytes, or the first of them and says why it stopped.
 #![tactic(auto)]
 
 mod exact;

@@ -1,11 +1,11 @@
 //! What takes bytes.
-ghost use Rattle.std.specs.Prelude.{◌≡◌, ℕ, List, [], ◌∷◌, Bool, true, IsTrue, Option, None, Some, Err, IfOk, length};
+ghost use Rattle.std.specs.Prelude.{◌≡◌, ℕ, List, [], ◌∷◌, Bool, true, IsTrue, Option, None, Some, Err, IfOk, IfErr, length};
 ghost use Rattle.std.specs.Borrow.{GName};
 ghost use Rattle.std.specs.declared.io.ErrorKind.{ErrorKind};
 ghost use Rattle.std.specs.Io.{WritesAtMost};
 ghost use Rattle.std.specs.Io.KnownBytes.{WriteAppends};
 ghost use Rattle.byte_streams.specs.Counting.{CountsWrite};
-ghost use Rattle.byte_streams.specs.Faults.{TellsWrite};
+ghost use Rattle.byte_streams.specs.Faults.{IsRetried, TellsWrite};
 ghost use Rattle.byte_streams.specs.Room.{TakesRoom};
 
 use std::io::ErrorKind;
@@ -44,9 +44,9 @@ pub trait Sink {
 
     /// Writes a front of `bytes`, and gives how many bytes it took.
     ///
-    /// A call that fails, an interrupted one too, takes nothing and is counted; so is a call that
-    /// takes nothing of some bytes. A refused growth is not. A fault has the device's own kind. Where the
-    /// room is known no call fails, and some bytes are taken where there is room for one.
+    /// A call that fails takes nothing and is counted; so is a call that takes nothing of some bytes. A refused growth is not. A fault has
+    /// the device's own kind. A write that a signal interrupts has not failed: it is tried again. Where the room is known no call fails,
+    /// and some bytes are taken where there is room for one.
     fn write_some(&mut self, bytes: &[u8]) -> Result<usize, SinkFault>
         ensures bound { WritesAtMost result bytes.now }
         ensures bytes { WriteAppends (written self.old) (written self.new) result bytes.now }
@@ -55,6 +55,7 @@ pub trait Sink {
         ensures whole { IsTrue grows → IfOk result (λ n. n ≡ length bytes.now) }
         ensures room { TakesRoom (room self.old) (room self.new) result (length bytes.now) }
         ensures kind { TellsWrite (last_fault self.new) result (length bytes.now) }
+        ensures retried { IfErr result IsRetried }
         ensures same { through self.new ≡ through self.old };
 
     /// How many writes have failed so far, held at the greatest `u64`.

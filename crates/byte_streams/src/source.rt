@@ -1,5 +1,5 @@
 //! What gives bytes.
-ghost use Rattle.std.specs.Prelude.{◌≡◌, ℕ, List, [], ◌∷◌, Option, None, Some, IfErr};
+ghost use Rattle.std.specs.Prelude.{◌≡◌, ◌≢◌, ℕ, List, [], ◌∷◌, Option, None, Some, IfErr};
 ghost use Rattle.std.specs.Borrow.{GName};
 ghost use Rattle.std.specs.declared.io.ErrorKind.{ErrorKind};
 ghost use Rattle.std.specs.Io.{ReadsAtMost};
@@ -24,13 +24,14 @@ pub trait Source {
 
     /// Reads some bytes into the front of `buffer`, and gives how many.
     ///
-    /// A short read is not the end: 0 bytes are, where `buffer` has room. A call that fails, an
-    /// interrupted one too, loses no byte and is counted; it answers the device's own kind of fault.
+    /// A short read is not the end: 0 bytes are, where `buffer` has room. A call that fails loses no byte and is counted; it answers the
+    /// device's own kind of fault. A read that a signal interrupts has not failed: it is tried again.
     fn read_some(&mut self, buffer: &mut [u8]) -> Result<usize, ErrorKind>
         ensures bound { ReadsAtMost result buffer.new }
         ensures bytes { ReadConsumes (left self.old) (left self.new) result buffer.new }
         ensures count { CountsRead (failed self.old) (failed self.new) result }
         ensures kind { IfErr result (λ kind. last_fault self.new ≡ Some kind) }
+        ensures retried { IfErr result (λ kind. kind ≢ ErrorKind.Interrupted) }
         ensures same { through self.new ≡ through self.old };
 
     /// How many reads have failed so far, held at the greatest `u64`.

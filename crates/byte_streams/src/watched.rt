@@ -1,9 +1,11 @@
 //! A reader or a writer of std that counts its failed calls.
-ghost use Rattle.std.specs.Prelude.{◌≡◌, false, None};
+ghost use Rattle.std.specs.Prelude.{◌≡◌, ◌≢◌, ◌↔◌, false, None, IsTrue, IfErr};
+ghost use Rattle.std.specs.Io.{ReadsAtMost, WritesAtMost};
+ghost use Rattle.std.specs.Io.KnownBytes.{ReadConsumes, WriteAppends};
 
 use crate::sink::{Sink, SinkFault};
 use crate::source::Source;
-use std::io::{Error, ErrorKind, Read, Write};
+use std::io::{ErrorKind, Read, Write};
 
 /// A reader or a writer of std, as a [`Source`] or a [`Sink`] that counts its failed calls.
 #[derive(Debug, Drop)]
@@ -16,7 +18,6 @@ pub struct Watched<D> {
 
 impl<D> Watched<D> {
     ghost use Rattle.std.specs.Prelude.{Some};
-    ghost use Rattle.std.specs.IoError.{error_kind};
     ghost use Rattle.byte_streams.specs.Counting.{one_more};
     ghost use Rattle.byte_streams.specs.Watched.{watched_device, watched_failures, watched_fault};
 
@@ -52,15 +53,12 @@ impl<D> Watched<D> {
         device
     }
 
-    /// Notes a failed call, and gives the device's own kind of fault.
-    fn note(&mut self, fault: &Error) -> ErrorKind
-        ensures kind { result ≡ error_kind fault.now }
-        ensures noted { self.new ≡ record self.old { failures = one_more self.old.failures; last_fault = Some result } }
+    // Notes a call that failed with this kind of fault.
+    fn note(&mut self, kind: ErrorKind)
+        ensures { self.new ≡ record self.old { failures = one_more self.old.failures; last_fault = Some kind } }
     {
-        let kind = fault.kind();
         self.failures = self.failures.saturating_add(1);
         self.last_fault = Some(kind);
-        kind
     }
 }
 
@@ -74,10 +72,10 @@ impl<D: Read> Source for Watched<D> {
     ghost last_fault = { watched_fault };
 
     fn read_some(&mut self, buffer: &mut [u8]) -> Result<usize, ErrorKind> {
-        match self.device.read(buffer) {
+        match read_retrying(&mut self.device, buffer) {
             Ok(count) => Ok(count),
-            Err(fault) => {
-                let kind = self.note(&fault);
+            Err(kind) => {
+                self.note(kind);
                 Err(kind)
             }
         }
@@ -100,7 +98,7 @@ impl<D: Write> Sink for Watched<D> {
     ghost grows = { false };
 
     fn write_some(&mut self, bytes: &[u8]) -> Result<usize, SinkFault> {
-        match self.device.write(bytes) {
+        match write_retrying(&mut self.device, bytes) {
             Ok(count) => {
                 if count == 0 && !bytes.is_empty() {
                     self.failures = self.failures.saturating_add(1);
@@ -108,8 +106,8 @@ impl<D: Write> Sink for Watched<D> {
                 }
                 Ok(count)
             }
-            Err(fault) => {
-                let kind = self.note(&fault);
+            Err(kind) => {
+                self.note(kind);
                 Err(SinkFault::Failed(kind))
             }
         }
@@ -118,4 +116,50 @@ impl<D: Write> Sink for Watched<D> {
     fn failures(&self) -> u64 {
         self.failures
     }
+}
+
+// One read, tried again where a signal interrupts it, as std's `read_exact` does. After 2^64 - 1 tries it answers std's kind, `TimedOut`.
+fn read_retrying<D: Read>(device: &mut D, buffer: &mut [u8]) -> Result<usize, ErrorKind>
+    ensures bound { ReadsAtMost result buffer.new }
+    ensures bytes { ReadConsumes (D.remaining device.old) (D.remaining device.new) result buffer.new }
+    ensures retried { IfErr result (λ kind. kind ≢ ErrorKind.Interrupted) }
+{
+    for _ in 0..u64::MAX {
+        match device.read(buffer) {
+            Ok(count) => return Ok(count),
+            Err(fault) => {
+                let kind = fault.kind();
+                if !is_interrupted(kind) {
+                    return Err(kind);
+                }
+            }
+        }
+    }
+    Err(ErrorKind::TimedOut)
+}
+
+// One write, tried again where a signal interrupts it, as std's `write_all` does. After 2^64 - 1 tries it answers std's kind, `TimedOut`.
+fn write_retrying<D: Write>(device: &mut D, bytes: &[u8]) -> Result<usize, ErrorKind>
+    ensures bound { WritesAtMost result bytes.now }
+    ensures bytes { WriteAppends (D.contents device.old) (D.contents device.new) result bytes.now }
+    ensures retried { IfErr result (λ kind. kind ≢ ErrorKind.Interrupted) }
+{
+    for _ in 0..u64::MAX {
+        match device.write(bytes) {
+            Ok(count) => return Ok(count),
+            Err(fault) => {
+                let kind = fault.kind();
+                if !is_interrupted(kind) {
+                    return Err(kind);
+                }
+            }
+        }
+    }
+    Err(ErrorKind::TimedOut)
+}
+
+fn is_interrupted(kind: ErrorKind) -> bool
+    ensures { IsTrue result ↔ (kind ≡ ErrorKind.Interrupted) }
+{
+    kind == ErrorKind::Interrupted
 }

@@ -80,7 +80,7 @@ struct Broken;
 
 impl Read for Broken {
     fn read(&mut self, _buf: &mut [u8]) -> io::Result<usize> {
-        Err(ErrorKind::Interrupted.into())
+        Err(ErrorKind::TimedOut.into())
     }
 }
 
@@ -97,9 +97,53 @@ impl Write for Broken {
 #[test]
 fn watched_failures_count(rt: HostRuntime) {
     let mut broken = Watched::new(Broken);
-    assert!(rt; broken.read_some(&mut [0; 3]) == Err(ErrorKind::Interrupted));
+    assert!(rt; broken.read_some(&mut [0; 3]) == Err(ErrorKind::TimedOut));
     assert!(rt; broken.write_some(b"") == Err(SinkFault::Failed(ErrorKind::BrokenPipe)));
     assert!(rt; Sink::failures(&broken) == 2);
+}
+
+// A reader and writer of std whose next call a signal interrupts. Each later call moves a byte.
+#[derive(Drop)]
+struct Interrupted {
+    is_next: bool,
+}
+
+impl Interrupted {
+    fn call(&mut self) -> io::Result<()> {
+        if self.is_next {
+            self.is_next = false;
+            return Err(ErrorKind::Interrupted.into());
+        }
+        Ok(())
+    }
+}
+
+impl Read for Interrupted {
+    fn read(&mut self, buf: &mut [u8]) -> io::Result<usize> {
+        self.call()?;
+        Ok(buf.len().min(1))
+    }
+}
+
+impl Write for Interrupted {
+    fn write(&mut self, buf: &[u8]) -> io::Result<usize> {
+        self.call()?;
+        Ok(buf.len().min(1))
+    }
+
+    fn flush(&mut self) -> io::Result<()> {
+        Ok(())
+    }
+}
+
+#[test]
+fn an_interrupted_call_is_tried_again(rt: HostRuntime) {
+    let mut device = Watched::new(Interrupted { is_next: true });
+    assert!(rt; read_full(&mut device, &mut [0; 3]) == Ok(3));
+    assert!(rt; Source::failures(&device) == 0);
+    let mut device = Watched::new(Interrupted { is_next: true });
+    assert!(rt; write_whole(&mut device, b"abc") == Ok(()));
+    assert!(rt; Sink::failures(&device) == 0);
 }
 
 #[test]
