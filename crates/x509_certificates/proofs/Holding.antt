@@ -2,26 +2,25 @@
 use Rattle.std.proofs.Common.{◌≡◌, ◌≢◌, ◌⊎◌, inl, inr, ℕ, List, Result, Ok, Err, MatchResult, refl, sym, ◌∙◌, subst}
 use Rattle.std.specs.Global.{Global}
 use Rattle.std.specs.Prelude.{Vec}
-use Rattle.std.specs.Str.{IsUtf8}
 use Rattle.x509_codec.specs.Answers.{CountsSpelling}
 use Rattle.x509_spelling.specs.declared.fault.X509Fault.{X509Fault}
 use Rattle.x509_spelling.specs.declared.fault.X509Fault.TheVariants as x509
 use Rattle.x509_certificates.specs.Files.{Holds, HoldsNone, IsGivenOr, IsIn, IsKeyFound, IsNoKeyFound, IsNoPkcs1Found, IsNoPlainKey, IsNotIn, IsSpelled, IsUnspelled, Lacks}
-use Rattle.x509_certificates.specs.Pem.{IsFound, IsNotFound}
+use Rattle.x509_certificates.specs.Pem.{IsFound, IsNotFound, IsPem}
 use Rattle.x509_certificates.specs.declared.fault.FileFault.{FileFault}
 use Rattle.x509_certificates.specs.declared.fault.FileFault.TheVariants.{NotFound, NotEnded, NotBase64, Encrypted, NotRead, NotRsa, Memory}
 use Rattle.x509_certificates.specs.declared.pem.Found.{Found}
 use Rattle.x509_certificates.specs.declared.pem.Label.{Label}
 use Rattle.x509_certificates.specs.declared.pem.Label.TheVariants.{PrivateKey, RsaPrivateKey}
 
-pub in_text : (label : Label) (file text : List ℕ) (r : Result Found FileFault) → text ≡ file → IsUtf8 file
-    → MatchResult r (IsFound label text) (IsNotFound label text) → MatchResult r (IsIn label file) (IsNotIn label file)
-in_text label file text (Ok found) e utf8 h = inl (utf8, subst (λ t. IsFound label t found) e h)
-in_text label file text (Err fault) e utf8 h = inr (utf8, subst (λ t. IsNotFound label t fault) e h)
+pub in_pem : (label : Label) (file : List ℕ) (r : Result Found FileFault) → IsPem file
+    → MatchResult r (IsFound label file) (IsNotFound label file) → MatchResult r (IsIn label file) (IsNotIn label file)
+in_pem label file (Ok found) pem h = inl (pem, h)
+in_pem label file (Err fault) pem h = inr (pem, h)
 
-pub in_whole : (label : Label) (file : List ℕ) (r : Result Found FileFault) → (IsUtf8 file → ⊥)
+pub in_whole : (label : Label) (file : List ℕ) (r : Result Found FileFault) → (IsPem file → ⊥)
     → MatchResult r (λ found. (found.der.items ≡ file) × (found.place ≡ 0)) (λ fault. fault ≡ Memory) → MatchResult r (IsIn label file) (IsNotIn label file)
-in_whole label file (Ok found) none h = inr (record { is_no_text = none; whole = h.0; placed = h.1 })
+in_whole label file (Ok found) none h = inr (record { is_no_pem = none; whole = h.0; placed = h.1 })
 in_whole label file (Err fault) none h = inl h
 
 -- the value that some DER is a spelling of
@@ -52,10 +51,10 @@ held spells label file found (Err fault) is h = inr (found, is, h)
 -- a boundary that isn't found is absent
 pub lacks : (label : Label) (file : List ℕ) (fault : FileFault) → IsNotIn label file fault → fault ≡ NotFound → Lacks label file
 lacks label file NotFound (inl memory) e = absurd (cc (memory))
-lacks label file NotFound (inr (utf8, inl none)) e = (utf8, none)
-lacks label file NotFound (inr (utf8, inr (place, body, encloses, inl memory))) e = absurd (cc (memory))
-lacks label file NotFound (inr (utf8, inr (place, body, encloses, inr (none, inl other)))) e = absurd (cc (other.1))
-lacks label file NotFound (inr (utf8, inr (place, body, encloses, inr (none, inr other)))) e = absurd (cc (other.1))
+lacks label file NotFound (inr (pem, inl none)) e = (pem, none)
+lacks label file NotFound (inr (pem, inr (place, body, encloses, inl memory))) e = absurd (cc (memory))
+lacks label file NotFound (inr (pem, inr (place, body, encloses, inr (none, inl other)))) e = absurd (cc (other.1))
+lacks label file NotFound (inr (pem, inr (place, body, encloses, inr (none, inr other)))) e = absurd (cc (other.1))
 lacks label file (NotEnded place) none e = absurd (cc (e))
 lacks label file (NotBase64 place) none e = absurd (cc (e))
 lacks label file (Encrypted place) none e = absurd (cc (e))

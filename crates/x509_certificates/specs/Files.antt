@@ -1,36 +1,35 @@
 -- What is in files of certificates and private keys.
 use Rattle.std.specs.Prelude.{◌≡◌, ◌≢◌, ◌⊎◌, ℕ, List, ◌∷◌}
-use Rattle.std.specs.Str.{IsUtf8}
 use Rattle.asn1_der.specs.Octets.{octet_string_octet, sequence_octet}
 use Rattle.picky_asn1_der.specs.Raw.{Raw}
 use Rattle.picky_asn1_der.specs.Splits.{SplitsInto}
 use Rattle.x509_keys.specs.declared.private_key_info.PrivateKeyInfo.{PrivateKeyInfo}
 use Rattle.x509_keys.specs.declared.private_key_value.PrivateKeyValue.TheVariants.{Rsa}
 use Rattle.x509_keys.specs.declared.rsa_private_key.RsaPrivateKey.{RsaPrivateKey}
-use Rattle.x509_certificates.specs.Pem.{IsAbsent, IsFound, IsNotFound, begin_of}
+use Rattle.x509_certificates.specs.Pem.{IsAbsent, IsFound, IsNotFound, IsPem, begin_of}
 use Rattle.x509_certificates.specs.declared.fault.FileFault.{FileFault}
 use Rattle.x509_certificates.specs.declared.fault.FileFault.TheVariants.{Encrypted, Memory, NotFound, NotRead, NotRsa}
 use Rattle.x509_certificates.specs.declared.pem.Found.{Found}
 use Rattle.x509_certificates.specs.declared.pem.Label.{Label}
 use Rattle.x509_certificates.specs.declared.pem.Label.TheVariants as label
 
--- a file that isn't text in UTF-8 is DER as a whole
+-- a file that isn't PEM is DER as a whole
 pub record IsWhole (file : List ℕ) (found : Found) : Type 0 where
-  pub is_no_text : IsUtf8 file → ⊥
+  pub is_no_pem : IsPem file → ⊥
   pub whole : found.der.items ≡ file
   pub placed : found.place ≡ 0
 
--- the DER in a file: the boundaries of a label enclose it in text, or it is the whole file
+-- the DER in a file: the boundaries of a label enclose it in PEM, or it is the whole file
 abbrev pub IsIn : Label → List ℕ → Found → Type 0
-IsIn label file found = (IsUtf8 file × IsFound label file found) ⊎ IsWhole file found
+IsIn label file found = (IsPem file × IsFound label file found) ⊎ IsWhole file found
 
--- why there is none: the file is text, and the boundaries of the label enclose none in it
+-- why there is none: the file is PEM, and the boundaries of the label enclose none in it
 abbrev pub IsNotIn : Label → List ℕ → FileFault → Type 0
-IsNotIn label file fault = (fault ≡ Memory) ⊎ (IsUtf8 file × IsNotFound label file fault)
+IsNotIn label file fault = (fault ≡ Memory) ⊎ (IsPem file × IsNotFound label file fault)
 
--- the file is text in which no boundary begins what the label encloses
+-- the file is PEM in which no boundary begins what the label encloses
 abbrev pub Lacks : Label → List ℕ → Type 0
-Lacks label file = IsUtf8 file × IsAbsent (begin_of label) file
+Lacks label file = IsPem file × IsAbsent (begin_of label) file
 
 -- the DER that was found is a spelling of a value
 unfoldable pub IsSpelled : {T : Type 0} → (T → List ℕ → ℕ → Type 0) → Found → List ℕ → Type 0
@@ -48,7 +47,7 @@ Holds spells label file der = (found : Found) × IsIn label file found × IsSpel
 abbrev pub HoldsNone : {T : Type 0} → (T → List ℕ → ℕ → Type 0) → Label → List ℕ → FileFault → Type 0
 HoldsNone spells label file fault = IsNotIn label file fault ⊎ ((found : Found) × IsIn label file found × IsUnspelled spells found fault)
 
--- the DER in a file of a private key. In text the label of PKCS#1 counts only where that of PKCS#8 is absent
+-- the DER in a file of a private key. In PEM the label of PKCS#1 counts only where that of PKCS#8 is absent
 abbrev pub IsKeyFound : List ℕ → Found → Type 0
 IsKeyFound file found =
     IsIn label.PrivateKey file found ⊎ (Lacks label.PrivateKey file × IsIn label.RsaPrivateKey file found)

@@ -1,7 +1,7 @@
 -- DER in text between boundaries (RFC 7468).
-use Rattle.std.specs.Prelude.{◌≡◌, ◌≢◌, ◌⊎◌, ◌<◌, ℕ, not, List, ◌++◌, length}
-use Rattle.std.specs.Char.{is_ascii_whitespace}
+use Rattle.std.specs.Prelude.{◌≡◌, ◌≢◌, ◌⊎◌, ◌<◌, ℕ, Bool, not, ◌&&◌, ◌||◌, ◌==◌, nat_le, List, ◌++◌, length}
 use Rattle.std.specs.List.{filter}
+use Rattle.std.specs.Str.{IsUtf8}
 use Rattle.std.specs.Str.Iter.{HasSubslice}
 use Rattle.std.specs.Str.Pattern.{LacksTextAt}
 use Rattle.base64.specs.Engines.{standard}
@@ -11,7 +11,7 @@ use Rattle.x509_certificates.specs.declared.fault.FileFault.TheVariants.{NotFoun
 use Rattle.x509_certificates.specs.declared.pem.Found.{Found}
 use Rattle.x509_certificates.specs.declared.pem.Label.{Label}
 use Rattle.x509_certificates.specs.declared.pem.Label.TheVariants as label
-use Rattle.x509_certificates.specs.declared.pem.TheConstants.{BEGIN_CERTIFICATE, BEGIN_PRIVATE_KEY, BEGIN_ENCRYPTED_PRIVATE_KEY, BEGIN_RSA_PRIVATE_KEY, ENCRYPTED, END_CERTIFICATE, END_PRIVATE_KEY, END_ENCRYPTED_PRIVATE_KEY, END_RSA_PRIVATE_KEY}
+use Rattle.x509_certificates.specs.declared.pem.TheConstants.{BEGIN, BEGIN_CERTIFICATE, BEGIN_PRIVATE_KEY, BEGIN_ENCRYPTED_PRIVATE_KEY, BEGIN_RSA_PRIVATE_KEY, ENCRYPTED, END_CERTIFICATE, END_PRIVATE_KEY, END_ENCRYPTED_PRIVATE_KEY, END_RSA_PRIVATE_KEY}
 
 -- the boundary in front of what a label encloses
 abbrev pub begin_of : Label → List ℕ
@@ -26,6 +26,10 @@ end_of label.Certificate = END_CERTIFICATE.now
 end_of label.PrivateKey = END_PRIVATE_KEY.now
 end_of label.EncryptedPrivateKey = END_ENCRYPTED_PRIVATE_KEY.now
 end_of label.RsaPrivateKey = END_RSA_PRIVATE_KEY.now
+
+-- A file is PEM if a BEGIN line begins in it, whatever octets its comments have, or if it is text in UTF-8 (RFC 7468, section 2).
+abbrev pub IsPem : List ℕ → Type 0
+IsPem file = HasSubslice file BEGIN.now ⊎ IsUtf8 file
 
 -- the first occurrence of a boundary in the text is between front and back
 pub record Divides (boundary text front back : List ℕ) : Type 0 where
@@ -58,9 +62,13 @@ HasNone label text (NotRead place) = ⊥
 HasNone label text (NotRsa place) = ⊥
 HasNone label text Memory = ⊥
 
--- the octets that aren't white space (RFC 7468, section 3)
+-- a tab, a line feed, a vertical tab, a form feed, a carriage return or a space (RFC 7468, section 3, `W`)
+abbrev pub is_white_space : ℕ → Bool
+is_white_space octet = (nat_le 9 octet && nat_le octet 13) || (octet == 32)
+
+-- the octets that aren't white space
 abbrev pub visible : List ℕ → List ℕ
-visible text = filter (λ octet. not (is_ascii_whitespace octet)) text
+visible text = filter (λ octet. not (is_white_space octet)) text
 
 -- the text is the base64 text of the octets, with white space anywhere (RFC 4648, section 4)
 abbrev pub IsDecoded : List ℕ → List ℕ → Type 0

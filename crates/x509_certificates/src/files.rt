@@ -7,7 +7,7 @@ ghost use Rattle.x509_keys.specs.declared.private_key_value.PrivateKeyValue.TheV
 
 use crate::Certificate;
 use crate::fault::FileFault;
-use crate::pem::{Found, Label, found_under};
+use crate::pem::{Found, Label, found_under, is_pem};
 use asn1_der::octets::OCTET_STRING;
 use picky_asn1_der::{Tag, split_element};
 use std::alloc::Global;
@@ -47,13 +47,14 @@ fn fault_at(place: usize, fault: X509Fault) -> FileFault
     }
 }
 
-/// The DER in a file: under a label in text, or else the whole file.
+/// The DER in a file: under a label in PEM, or else the whole file.
 fn found_in(alloc: Global, file: &[u8], label: Label) -> Result<Found, FileFault>
     ensures { MatchResult result (IsIn label file.now) (IsNotIn label file.now) }
 {
-    match str::from_utf8(file) {
-        Ok(text) => found_under(alloc, text, label),
-        Err(_) => whole(alloc, file),
+    if is_pem(file) {
+        found_under(alloc, file, label)
+    } else {
+        whole(alloc, file)
     }
 }
 
@@ -67,7 +68,7 @@ fn whole(alloc: Global, file: &[u8]) -> Result<Found, FileFault>
     }
 }
 
-/// The private key of RSA in a file: of PKCS#8 (RFC 5958), or of PKCS#1 (RFC 8017, appendix A.1.2). In text the label of PKCS#8 counts
+/// The private key of RSA in a file: of PKCS#8 (RFC 5958), or of PKCS#1 (RFC 8017, appendix A.1.2). In PEM the label of PKCS#8 counts
 /// before that of PKCS#1, and that of an encrypted key last.
 ///
 /// An encrypted key is `Encrypted`, a key for another algorithm `NotRsa`, and DER that is no private key `NotRead`, each with its place.

@@ -1,11 +1,15 @@
 //! DER in text between boundaries (RFC 7468).
 ghost use Rattle.std.specs.Prelude.{◌≡◌, IfOk, MatchOption, MatchResult};
-ghost use Rattle.x509_certificates.specs.Pem.{Divides, Encloses, HasNone, IsAbsent, IsDecoded, IsEnded, IsFound, IsNoBase64, IsNotFound, IsUndecoded, begin_of, end_of, visible};
+ghost use Rattle.std.specs.Bool.{MatchBool};
+ghost use Rattle.std.specs.Str.{IsUtf8};
+ghost use Rattle.x509_certificates.specs.Pem.{Divides, Encloses, HasNone, IsAbsent, IsDecoded, IsEnded, IsFound, IsNoBase64, IsNotFound, IsPem, IsUndecoded, begin_of, end_of, is_white_space, visible};
 
 use crate::fault::FileFault;
 use base64::DecodeAllocError;
 use base64::engine::general_purpose::STANDARD;
+use memchr::memmem;
 use std::alloc::{AllocError, Global};
+use std::str;
 
 /// What a pair of boundaries encloses.
 #[derive(Clone, Copy)]
@@ -19,6 +23,8 @@ pub enum Label {
     /// A private key of PKCS#1, which OpenSSL writes.
     RsaPrivateKey,
 }
+
+const BEGIN: &str = "-----BEGIN ";
 
 const BEGIN_CERTIFICATE: &str = "-----BEGIN CERTIFICATE-----";
 
@@ -66,7 +72,7 @@ impl Label {
 #[derive(Clone, Copy)]
 struct Between<'a> {
     place: usize,
-    body: &'a str,
+    body: &'a [u8],
 }
 
 /// DER that was found, and how many octets of the file are in front of it, or of the boundary that begins it.
@@ -79,14 +85,41 @@ pub struct Found {
 }
 
 /// What is in front of the first occurrence of a boundary, and what is behind it.
-fn divided<'a>(text: &'a str, boundary: &str) -> Option<(&'a str, &'a str)>
+fn divided<'a>(text: &'a [u8], boundary: &str) -> Option<(&'a [u8], &'a [u8])>
     ensures { MatchOption result (IsAbsent boundary.now text.now) (λ parts. Divides boundary.now text.now parts.0.now parts.1.now) }
 {
-    text.split_once(boundary)
+    let needle = boundary.as_bytes();
+    match memmem::find(text, needle) {
+        Some(place) => {
+            let (front, found) = text.split_at(place);
+            let (_, back) = found.split_at(needle.len());
+            Some((front, back))
+        }
+        None => None,
+    }
+}
+
+/// Whether the file is PEM, and no DER.
+pub fn is_pem(file: &[u8]) -> bool
+    ensures { MatchBool result (IsPem file.now) (IsPem file.now → ⊥) }
+{
+    match divided(file, BEGIN) {
+        Some(_) => true,
+        None => is_text(file),
+    }
+}
+
+fn is_text(file: &[u8]) -> bool
+    ensures { MatchBool result (IsUtf8 file.now) (IsUtf8 file.now → ⊥) }
+{
+    match str::from_utf8(file) {
+        Ok(_) => true,
+        Err(_) => false,
+    }
 }
 
 /// What the first boundaries of a label enclose.
-fn enclosed(text: &str, label: Label) -> Result<Between<'_>, FileFault>
+fn enclosed(text: &[u8], label: Label) -> Result<Between<'_>, FileFault>
     ensures { MatchResult result (λ found. Encloses label text.now found.place found.body.now) (HasNone label text.now) }
 {
     match divided(text, label.begin()) {
@@ -97,7 +130,7 @@ fn enclosed(text: &str, label: Label) -> Result<Between<'_>, FileFault>
 
 /// What precedes the label's END boundary in `rest`; a fault at `place` if there is none. The BEGIN boundary is `place` octets into
 /// the text, and `rest` follows it.
-fn ended(place: usize, rest: &str, label: Label) -> Result<Between<'_>, FileFault>
+fn ended(place: usize, rest: &[u8], label: Label) -> Result<Between<'_>, FileFault>
     ensures { MatchResult result (λ found. (found.place ≡ place) × IsEnded label rest.now found.body.now) (λ fault. (fault ≡ FileFault.NotEnded place) × IsAbsent (end_of label) rest.now) }
 {
     match divided(rest, label.end()) {
@@ -107,12 +140,18 @@ fn ended(place: usize, rest: &str, label: Label) -> Result<Between<'_>, FileFaul
 }
 
 /// The octets of a text that aren't white space.
-fn visible(alloc: Global, text: &str) -> Result<Vec<u8>, AllocError>
+fn visible(alloc: Global, text: &[u8]) -> Result<Vec<u8>, AllocError>
     ensures { IfOk result (λ octets. octets.items ≡ visible text.now) }
 {
-    let mut octets = Vec::from_slice(alloc, text.as_bytes())?;
-    octets.retain(|octet| !octet.is_ascii_whitespace());
+    let mut octets = Vec::from_slice(alloc, text)?;
+    octets.retain(|octet| !is_white_space(*octet));
     Ok(octets)
+}
+
+fn is_white_space(octet: u8) -> bool
+    ensures { result ≡ is_white_space octet }
+{
+    (9 <= octet && octet <= 13) || octet == b' '
 }
 
 /// The octets of which an enclosed text is the base64 text.
@@ -133,15 +172,14 @@ fn decoded(alloc: Global, enclosed: &Between<'_>) -> Result<Vec<u8>, FileFault>
 fn without_base64(enclosed: &Between<'_>) -> FileFault
     ensures { IsNoBase64 enclosed.now.place enclosed.now.body.now result }
 {
-    if enclosed.body.contains(ENCRYPTED) {
-        FileFault::Encrypted(enclosed.place)
-    } else {
-        FileFault::NotBase64(enclosed.place)
+    match divided(enclosed.body, ENCRYPTED) {
+        Some(_) => FileFault::Encrypted(enclosed.place),
+        None => FileFault::NotBase64(enclosed.place),
     }
 }
 
 /// The DER that the first boundaries of a label enclose.
-pub fn found_under(alloc: Global, text: &str, label: Label) -> Result<Found, FileFault>
+pub fn found_under(alloc: Global, text: &[u8], label: Label) -> Result<Found, FileFault>
     ensures { MatchResult result (IsFound label text.now) (IsNotFound label text.now) }
 {
     match enclosed(text, label) {
