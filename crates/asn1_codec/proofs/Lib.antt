@@ -8,6 +8,8 @@ pub mod ElementWrites
 pub mod FieldsLemmas
 pub mod Headers
 pub mod Leaves
+pub mod Lengths
+pub mod NamedLemmas
 pub mod PairLemmas
 pub mod ReadsLemmas
 pub mod Results

@@ -6,6 +6,8 @@ pub mod CharacterLaws
 pub mod Characters
 pub mod Cuts
 pub mod Ends
+pub mod Lengths
+pub mod Named
 pub mod Nulls
 pub mod OptionLaws
 pub mod Optionals

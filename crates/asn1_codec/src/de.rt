@@ -6,11 +6,13 @@ ghost use Rattle.asn1_der.specs.Tree.{Tree, Trees, none, more, bare, IsWhole, Ar
 ghost use Rattle.asn1_der.specs.Length.{element, length_octets};
 ghost use Rattle.asn1_der.specs.Firsts.{may_begin};
 ghost use Rattle.asn1_codec.specs.Cuts.{TakesNext, MissesNext};
+ghost use Rattle.asn1_codec.specs.Named.{TellsEnd, TellsWholeEnd};
 ghost use Rattle.asn1_codec.specs.Reads.{ReadsFront, ReadsWhole};
 ghost use Rattle.asn1_codec.specs.Tails.{IsLengthTail, TookTail};
 ghost use Rattle.asn1_codec.specs.Reading.{TookValue, TookBy, Refused, IsOwn, IsExcuse, IsSpelling, IsReadBy, IsLastBy, IsNotNext, TellsKind, result_faults};
 
 use crate::fields::Fields;
+use crate::input_end::named;
 use crate::row::Row1;
 use crate::ser::Serialize;
 use asn1_der::{Asn1DerError, Content, MOST_IN_PLACE, following, length_of};
@@ -41,6 +43,7 @@ pub trait Deserialize: Serialize + Sized {
 /// says, for what a message leaves open. Fields, lists and tags hold values of the first kind alone.
 pub trait FromDer: Sized + Drop {
     ghost use Rattle.asn1_der.specs.Seen.{Seen, as_is};
+    ghost use Rattle.asn1_codec.specs.Named.{IsAnElement};
     ghost use Rattle.asn1_codec.specs.Reads.{IsOneValue};
     ghost use Rattle.asn1_codec.specs.Reading.{Reading, TookBy, IsReadBy, Refused};
 
@@ -51,6 +54,9 @@ pub trait FromDer: Sized + Drop {
     ghost seen: { Seen Self } = { as_is };
 
     ghost one_value: { IsOneValue seen reads };
+
+    // A value is read from one element.
+    ghost is_element: { (value : Self) (bytes : List ℕ) → reads value bytes → IsAnElement bytes };
 
     /// Reads a value, and takes just the bytes that are read as it. After a refusal the deserializer answers
     /// `InvalidData` from then on.
@@ -64,6 +70,7 @@ impl<T: Deserialize + Drop> FromDer for T {
     ghost use Rattle.asn1_der.specs.Tree.{Writes};
     ghost use Rattle.asn1_der.specs.Seen.{Alike};
     ghost use Rattle.asn1_der.proofs.Spelling.{one_spelling_as};
+    ghost use Rattle.asn1_codec.specs.Named.{element_of};
 
     ghost reads = { λ value bytes. Writes T.tree value bytes };
 
@@ -72,6 +79,8 @@ impl<T: Deserialize + Drop> FromDer for T {
     ghost one_value = { λ v w a b x y first second e.
         let same = one_spelling_as (Alike T.seen) T.tree T.injective v w a b x y first second e
         in (same.0, same.1) };
+
+    ghost is_element = { λ value bytes read. element_of (T.tree value) bytes read.0 read.1 };
 
     fn read_from<R: Source>(from: &mut Deserializer<R>) -> Result<Self, Asn1DerError> {
         T::deserialize(from)
@@ -501,7 +510,37 @@ impl<R: Source> Deserializer<R> {
 }
 
 /// Reads the value whose spelling begins `input`. Bytes after it stay unread. No fault is a device's.
+///
+/// `TruncatedData` is the fault exactly where the input ends inside an element. After another fault nothing that follows the input makes it
+/// one that begins with a value, unless memory ran out.
 pub fn from_bytes<T: FromDer>(alloc: Global, input: &[u8]) -> Result<T, Asn1DerError>
+    ensures value { ReadsFront T.seen T.reads input.now result }
+    ensures own { IfErr result IsOwn }
+    ensures end { IfErr result (TellsEnd T.reads input.now) }
+{
+    match first_value(alloc, input) {
+        Ok(value) => Ok(value),
+        Err(fault) => Err(named(fault, input)),
+    }
+}
+
+/// Reads the value whose spelling is all of `input`. No fault is a device's.
+///
+/// `TruncatedData` is the fault exactly where the input ends inside an element. After another fault nothing that follows the input makes it
+/// a value, unless memory ran out.
+pub fn from_exact_bytes<T: FromDer>(alloc: Global, input: &[u8]) -> Result<T, Asn1DerError>
+    ensures value { ReadsWhole T.seen T.reads input.now result }
+    ensures own { IfErr result IsOwn }
+    ensures end { IfErr result (TellsWholeEnd T.reads input.now) }
+{
+    match whole_value(alloc, input) {
+        Ok(value) => Ok(value),
+        Err(fault) => Err(named(fault, input)),
+    }
+}
+
+// The value whose spelling begins `input`.
+fn first_value<T: FromDer>(alloc: Global, input: &[u8]) -> Result<T, Asn1DerError>
     ensures value { ReadsFront T.seen T.reads input.now result }
     ensures own { IfErr result IsOwn }
 {
@@ -512,8 +551,8 @@ pub fn from_bytes<T: FromDer>(alloc: Global, input: &[u8]) -> Result<T, Asn1DerE
     answer
 }
 
-/// Reads the value whose spelling is all of `input`. No fault is a device's.
-pub fn from_exact_bytes<T: FromDer>(alloc: Global, input: &[u8]) -> Result<T, Asn1DerError>
+// The value whose spelling is all of `input`.
+fn whole_value<T: FromDer>(alloc: Global, input: &[u8]) -> Result<T, Asn1DerError>
     ensures value { ReadsWhole T.seen T.reads input.now result }
     ensures own { IfErr result IsOwn }
 {

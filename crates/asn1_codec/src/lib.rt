@@ -5,7 +5,8 @@
 //! made of (tags, choices, defaults) are in `picky_asn1_der`, which hands on all names of this crate.
 //!
 //! [`from_bytes`] answers a value if and only if the input begins with bytes that the type reads as it, and [`from_exact_bytes`] if and
-//! only if the input is such bytes. Of a [`Deserialize`] type these are the value's one encoding. [`from_reader`] takes just the bytes of
+//! only if the input is such bytes. Of a [`Deserialize`] type these are the value's one encoding. Their fault is `TruncatedData` exactly where
+//! the input ends inside an element. After another fault of DER no continuation is read. [`from_reader`] takes just the bytes of
 //! the value, within its limit. By the law [`one_reading`] its answer is independent of the reader's cuts, device faults aside. [`to_vec`],
 //! [`to_bytes`], [`to_byte_buf`] and [`to_writer`] write the encoding, and refuse what the type refuses.
 #![tactic(auto)]
@@ -18,6 +19,7 @@ mod character;
 mod de;
 mod elements;
 mod fields;
+mod input_end;
 mod integer;
 mod laws;
 mod leaf;
@@ -46,6 +48,7 @@ pub use de::{
 };
 pub use elements::Elements;
 pub use fields::{Fields, WriteFields, write_field};
+pub use input_end::split_length;
 pub use integer::{unsigned_of, write_unsigned};
 pub use laws::one_reading;
 pub use leaf::Leaf;

@@ -22,16 +22,6 @@ IsNoSplit input = (raw : Raw) (rest : List ℕ) → SplitsInto input raw rest �
 abbrev pub IsOneElement : List ℕ → Type 0
 IsOneElement bytes = (raw : Raw) × (has_low_number raw.first ≡ true) × (length raw.content < 2 ^ 64) × (bytes ≡ element raw.first raw.content)
 
--- the bytes are the length octets of such a length
-abbrev pub AreLengthOctets : List ℕ → Type 0
-AreLengthOctets bytes = (count : ℕ) × (count < 2 ^ 64) × (bytes ≡ length_octets count)
-
--- why no such bytes begin the input: it ends inside some of them, or it can't be gone on with to begin with any
-abbrev pub IsWanting : (List ℕ → Type 0) → List ℕ → Asn1DerError → Type 0
-IsWanting P input TruncatedData = (more : List ℕ) × P (input ++ more) × (1 ≤ length more)
-IsWanting P input InvalidData = (more bytes rest : List ℕ) → P bytes → input ++ more ≡ bytes ++ rest → ⊥
-IsWanting P input fault = ⊥
-
 -- why the bytes are no element: they end inside one, or no further bytes make one of them
 abbrev pub IsNotOne : List ℕ → Asn1DerError → Type 0
 IsNotOne bytes TruncatedData = (IsOneElement bytes → ⊥) × ((more : List ℕ) × IsOneElement (bytes ++ more))

@@ -1,7 +1,7 @@
 -- What comes next from a source, and why something wanted doesn't.
 use Rattle.std.specs.Prelude.{ℕ, List, Option, None, Some, ⊤}
 use Rattle.std.specs.Io.KnownBytes.{IsAtEnd}
-use Rattle.picky_asn1_der.specs.Splits.{IsWanting}
+use Rattle.asn1_codec.specs.Lengths.{IsWanting}
 use Rattle.asn1_der.specs.declared.error.Asn1DerError.{Asn1DerError}
 use Rattle.asn1_der.specs.declared.error.Asn1DerError.TheVariants.{TruncatedData, InvalidData, Other}
 

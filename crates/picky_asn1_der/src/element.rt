@@ -1,12 +1,14 @@
 //! The element that begins an input, in place.
-ghost use Rattle.std.specs.Prelude.{◌≡◌, ℕ, ◌^◌, ◌<◌, List, ◌∷◌, ◌++◌, true, MatchResult};
-ghost use Rattle.asn1_der.specs.Length.{element, length_octets};
+ghost use Rattle.std.specs.Prelude.{◌≡◌, ◌∷◌, true, MatchResult};
+ghost use Rattle.asn1_der.specs.Length.{element};
+ghost use Rattle.asn1_codec.specs.Lengths.{IsWanting};
 ghost use Rattle.picky_asn1_der.specs.Raw.{Raw, has_low_number};
 ghost use Rattle.picky_asn1_der.specs.Parts.{IsStep};
-ghost use Rattle.picky_asn1_der.specs.Splits.{IsNoSplit, IsOneElement, AreLengthOctets, IsWanting};
+ghost use Rattle.picky_asn1_der.specs.Splits.{IsNoSplit, IsOneElement};
 
 use crate::tag::Tag;
-use asn1_der::{Asn1DerError, following, length_of};
+use asn1_codec::split_length;
+use asn1_der::Asn1DerError;
 use std::marker::Model;
 
 /// One element where it is in an input: a tag whose number is below 31, a definite length in as few octets as
@@ -93,37 +95,4 @@ fn split_identifier(input: &[u8]) -> Result<(u8, &[u8]), Asn1DerError>
         return Err(Asn1DerError::InvalidData);
     }
     Ok((*first, behind))
-}
-
-// The length that the first octets of the input encode, and the bytes after them.
-pub(crate) fn split_length(input: &[u8]) -> Result<(usize, &[u8]), Asn1DerError>
-    ensures { MatchResult result
-        (λ split. (split.0 < 2 ^ 64) × (input.now ≡ length_octets split.0 ++ split.1.now))
-        (λ fault. IsWanting AreLengthOctets input.now fault) }
-{
-    let Some((first, digits)) = input.split_first() else {
-        return Err(Asn1DerError::TruncatedData);
-    };
-    let Some(more) = following(*first) else {
-        return Err(Asn1DerError::InvalidData);
-    };
-    if digits.len() < more {
-        return Err(fault_of_digits(digits));
-    }
-    let (octets, rest) = input.split_at(1 + more);
-    match length_of(octets) {
-        Some(count) => Ok((count, rest)),
-        None => Err(Asn1DerError::InvalidData),
-    }
-}
-
-// The fault of an input that ends inside the digits of a length: a first digit 0 isn't needed.
-fn fault_of_digits(digits: &[u8]) -> Asn1DerError
-    ensures zero { (ds : List ℕ) → digits.now ≡ 0 ∷ ds → result ≡ Asn1DerError.InvalidData }
-    ensures other { ((ds : List ℕ) → digits.now ≡ 0 ∷ ds → ⊥) → result ≡ Asn1DerError.TruncatedData }
-{
-    match digits.first() {
-        Some(0) => Asn1DerError::InvalidData,
-        _ => Asn1DerError::TruncatedData,
-    }
 }

@@ -81,6 +81,8 @@ impl FromDer for IAKerbHeader {
         (λ v. v.target_realm) (λ v. v.cookie.0) (λ v. v.flags.0)
         (λ v w first second third. λ i. record { target_realm = first i; cookie = record { 0 = second i }; flags = record { 0 = third i } }) };
 
+    ghost is_element = { λ value bytes read. (sequence_octet, read.0, read.1) };
+
     fn read_from<R: Source>(from: &mut Deserializer<R>) -> Result<Self, Asn1DerError> {
         let (target_realm, cookie, flags) = read_header::<RealmField, CookieField, FlagsField, R>(
             from,

@@ -4,12 +4,11 @@ ghost use Rattle.std.specs.Io.KnownBytes.{Consumes};
 ghost use Rattle.asn1_der.specs.Length.{length_octets};
 ghost use Rattle.asn1_codec.specs.Reading.{TellsKind, result_faults};
 ghost use Rattle.asn1_codec.specs.Writing.{WroteValue, NotWroteTo, at_sink};
-ghost use Rattle.picky_asn1_der.specs.Splits.{AreLengthOctets};
+ghost use Rattle.asn1_codec.specs.Lengths.{AreLengthOctets};
 ghost use Rattle.picky_asn1_der.specs.Streams.{IsWantingNext};
 
-use crate::element::split_length;
 use crate::misc::read_ext::ReadExt;
-use asn1_codec::write_octets;
+use asn1_codec::{split_length, write_octets};
 use asn1_der::{Asn1DerError, LengthOctets, following};
 use byte_streams::{Sink, Source, read_full};
 

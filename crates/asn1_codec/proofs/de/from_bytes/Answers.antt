@@ -1,11 +1,17 @@
-use Rattle.std.proofs.Common.{ap, sym}
-use Rattle.asn1_codec.proofs.ReadsLemmas.{reads-answer, own-answer}
+use Rattle.asn1_codec.proofs.NamedLemmas.{named-front}
 use Rattle.asn1_codec.proofs.de.from_bytes.Goals as goal
 
-pub returns-clause-value : goal.returns-clause-value
-returns-clause-value g c =
-    reads-answer g.T.FromDer.seen g.T.FromDer.reads g.T.FromDer.one_value _ _ _ _ c.new_from_bytes-from.ensures (ap (λ r. r.faults) (sym c.from.view_is)) c.read_from-answer.ensures
+pub returns-in-Err-clause-value : goal.returns-in-Err-clause-value
+returns-in-Err-clause-value g c =
+    let t = g.T.FromDer in
+    (named-front t.seen t.reads t.is_element c.args.input.now c.in-Err.fault c.named.result c.in-Err.ensures.value c.in-Err.ensures.own c.named.ensures).0
 
-pub returns-clause-own : goal.returns-clause-own
-returns-clause-own g c =
-    own-answer _ _ _ _ _ _ c.new_from_bytes-from.ensures (ap (λ r. r.faults) (sym c.from.view_is)) c.read_from-answer.ensures
+pub returns-in-Err-clause-own : goal.returns-in-Err-clause-own
+returns-in-Err-clause-own g c =
+    let t = g.T.FromDer in
+    (named-front t.seen t.reads t.is_element c.args.input.now c.in-Err.fault c.named.result c.in-Err.ensures.value c.in-Err.ensures.own c.named.ensures).1
+
+pub returns-in-Err-clause-end : goal.returns-in-Err-clause-end
+returns-in-Err-clause-end g c =
+    let t = g.T.FromDer in
+    (named-front t.seen t.reads t.is_element c.args.input.now c.in-Err.fault c.named.result c.in-Err.ensures.value c.in-Err.ensures.own c.named.ensures).2

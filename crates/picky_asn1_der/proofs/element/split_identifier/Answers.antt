@@ -1,4 +1,5 @@
-use Rattle.picky_asn1_der.proofs.Splits.{nothing, no_identifier, high_number}
+use Rattle.asn1_codec.proofs.Lengths.{nothing}
+use Rattle.picky_asn1_der.proofs.Splits.{no_identifier, high_number}
 use Rattle.picky_asn1_der.proofs.element.split_identifier.Goals as goal
 
 pub returns-in_default : goal.returns-in_default

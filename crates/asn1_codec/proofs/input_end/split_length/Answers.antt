@@ -1,6 +1,6 @@
 use Rattle.std.proofs.Common.{sym, ◌∙◌}
-use Rattle.picky_asn1_der.proofs.Splits.{nothing, no_octet, no_length, no_such_length, short_length}
-use Rattle.picky_asn1_der.proofs.element.split_length.Goals as goal
+use Rattle.asn1_codec.proofs.Lengths.{nothing, no_octet, no_length, no_such_length, short_length}
+use Rattle.asn1_codec.proofs.input_end.split_length.Goals as goal
 
 pub returns-in_default : goal.returns-in_default
 returns-in_default c = rw (nothing c.args.input.now c.in_default.ensures.cases) no_octet
