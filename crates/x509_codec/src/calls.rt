@@ -1,5 +1,5 @@
 //! The calls that a user makes.
-ghost use Rattle.std.specs.Prelude.{◌≡◌, ◌↔◌, ℕ, None, length, IfOk, IfErr, MatchResult};
+ghost use Rattle.std.specs.Prelude.{◌≡◌, ◌↔◌, ℕ, None, length, IsOk, IfOk, IfErr, MatchResult};
 ghost use Rattle.asn1_der.specs.Tree.{IsWhole, der};
 ghost use Rattle.asn1_der.specs.Refusals.{refusal_of};
 ghost use Rattle.asn1_codec.specs.Writing.{IsTooLong};
@@ -30,6 +30,7 @@ pub fn deviations<T: Spelled>(alloc: Global, bytes: &[u8]) -> Result<usize, X509
 pub fn to_vec<T: Spelled>(alloc: Global, value: &T) -> Result<Vec<u8>, X509Fault>
     ensures bytes { IfOk result (λ bytes. bytes.items ≡ der (T.tree value.now)) }
     ensures strict { IfOk result (λ bytes. IsWhole (T.tree value.now) → T.spells value.now bytes.items 0) }
+    ensures written { IsOk result → refusal_of T.refusal value.now ≡ None }
     ensures fault { refusal_of T.refusal value.now ≡ None → IfErr result (λ fault. fault ≡ X509Fault.Memory) }
 {
     match picky_asn1_der::to_vec(alloc, value) {
@@ -40,9 +41,10 @@ pub fn to_vec<T: Spelled>(alloc: Global, value: &T) -> Result<Vec<u8>, X509Fault
 
 /// The length of the strict spelling of a value. A length of 2^64 or more is returned as `Memory`.
 pub fn encoded_len<T: Spelled>(value: &T) -> Result<usize, X509Fault>
-    ensures { refusal_of T.refusal value.now ≡ None → MatchResult result
+    ensures value { refusal_of T.refusal value.now ≡ None → MatchResult result
         (λ count. count ≡ length (der (T.tree value.now)))
         (λ fault. (fault ≡ X509Fault.Memory) × IsTooLong (der (T.tree value.now))) }
+    ensures written { IsOk result → refusal_of T.refusal value.now ≡ None }
 {
     match value.encoded_len() {
         Ok(count) => Ok(count),
