@@ -6,6 +6,7 @@ use Rattle.std.proofs.lemmas.List.{take_at, take_all, length-take}
 use Rattle.std.specs.Io.KnownBytes.{Consumes, IsAtEnd}
 use Rattle.std.specs.declared.io.ErrorKind.{ErrorKind}
 use Rattle.std.specs.declared.io.ErrorKind.TheVariants.{OutOfMemory}
+use Rattle.byte_streams.specs.Counting.{one_more}
 use Rattle.byte_streams.specs.Stops.{IsStop}
 use Rattle.byte_streams.proofs.StopLaws.{stopped-once}
 use Rattle.byte_streams.proofs.NumberLaws.{AreBytes}
@@ -56,19 +57,22 @@ header-refused l (Some bytes) (Some rest) (Some cause) last old new count buffer
     })
 
 -- what came of a header that is refused
-wrong-front : {V : Type 0} (l : Layout V) (message front : List ℕ) (kind e : ErrorKind) → length front ≤ l.width → e ≡ kind
-    → (kind ≡ OutOfMemory) ⊎ (l.read front message ≡ Err kind) → (e ≡ OutOfMemory) ⊎ IsWrongFront l message e
-wrong-front l message front kind e few is (inl memory) = inl (is ∙ memory)
-wrong-front l message front kind e few is (inr wrong) = inr (front, few, wrong ∙ ap Err (sym is))
+wrong-front : {V : Type 0} (l : Layout V) (message front : List ℕ) (after : Option (List ℕ)) (old new : ℕ) (kind e : ErrorKind) → length front ≤ l.width
+    → (length front < l.width → IsAtEnd after ⊎ (new ≡ one_more old)) → e ≡ kind
+    → (kind ≡ OutOfMemory) ⊎ (l.read front message ≡ Err kind) → (e ≡ OutOfMemory) ⊎ IsWrongFront l message after old new e
+wrong-front l message front after old new kind e few ended is (inl memory) = inl (is ∙ memory)
+wrong-front l message front after old new kind e few ended is (inr wrong) = inr (front, few, ended, wrong ∙ ap Err (sym is))
 
 -- what a refused header tells of any device
-pub header-told : {V : Type 0} (l : Layout V) (fault last : Option ErrorKind) (old new : ℕ) (front message : List ℕ) (kind : ErrorKind) (e : NegoexError)
-    → length front ≤ l.width → IsStop old new last fault → (kind ≡ OutOfMemory) ⊎ (l.read front message ≡ Err kind) → IsAnswer kind fault e.kind
-    → TellsRead l message old new last e
-header-told l None last old new front message kind e few stopped told is = inl (wrong-front l message front kind e.kind few is told, inl stopped)
-header-told l (Some cause) last old new front message kind e few stopped told (inl (short, same)) = inr (stopped.0, stopped.1 ∙ ap Some (sym same))
-header-told l (Some cause) last old new front message kind e few stopped told (inr (other, same)) =
-    inl (wrong-front l message front kind e.kind few same told, stopped-once (Some cause) last old new stopped)
+pub header-told : {V : Type 0} (l : Layout V) (after : Option (List ℕ)) (fault last : Option ErrorKind) (old new : ℕ) (front message : List ℕ) (kind : ErrorKind) (e : NegoexError)
+    → length front ≤ l.width → (fault ≡ None → length front < l.width → IsAtEnd after) → IsStop old new last fault
+    → (kind ≡ OutOfMemory) ⊎ (l.read front message ≡ Err kind) → IsAnswer kind fault e.kind
+    → TellsRead l message after old new last e
+header-told l after None last old new front message kind e few ends stopped told is =
+    inl (wrong-front l message front after old new kind e.kind few (λ short. inl (ends refl short)) is told, inl stopped)
+header-told l after (Some cause) last old new front message kind e few ends stopped told (inl (short, same)) = inr (stopped.0, stopped.1 ∙ ap Some (sym same))
+header-told l after (Some cause) last old new front message kind e few ends stopped told (inr (other, same)) =
+    inl (wrong-front l message front after old new kind e.kind few (λ _. inr stopped.0) same told, stopped-once (Some cause) last old new stopped)
 
 -- a header that is whole was read without a fault
 pub header-counted : {T V : Type 0} (view : T → V) (l : Layout V) → LayoutLaws l → (t : T) (fault last : Option ErrorKind) (old new count : ℕ) (buffer message : List ℕ)

@@ -1,6 +1,6 @@
 -- Headers that are read from a device. `after` is what is left behind what came.
-use Rattle.std.specs.Prelude.{◌≡◌, ℕ, ◌≤◌, ◌⊎◌, List, length, take, Option, Some, Result, Err, MatchResult}
-use Rattle.std.specs.Io.KnownBytes.{Consumes}
+use Rattle.std.specs.Prelude.{◌≡◌, ℕ, ◌≤◌, ◌<◌, ◌⊎◌, List, length, take, Option, Some, Result, Err, MatchResult}
+use Rattle.std.specs.Io.KnownBytes.{Consumes, IsAtEnd}
 use Rattle.std.specs.declared.io.ErrorKind.{ErrorKind}
 use Rattle.std.specs.declared.io.ErrorKind.TheVariants.{OutOfMemory, UnexpectedEof}
 use Rattle.byte_streams.specs.Counting.{one_more}
@@ -34,12 +34,14 @@ IsGiven {T} {V} view l message bytes after old new last result =
     (v : V) → l.Fits v → l.IsLaid v (take l.width bytes) message
     → MatchResult result (λ t. view t ≡ v) (λ e. (e.kind ≡ OutOfMemory) ⊎ IsBroken l message bytes after old new last e)
 
--- so many bytes at most came of a header, of which nothing can be read, by this fault
-abbrev pub IsWrongFront : {V : Type 0} → Layout V → List ℕ → ErrorKind → Type 0
-IsWrongFront l message kind = (came : List ℕ) × (length came ≤ l.width) × (l.read came message ≡ Err kind)
+-- So many bytes at most came of a header, of which nothing can be read, by this fault. Where fewer came, the device is at its end, or it
+-- failed.
+abbrev pub IsWrongFront : {V : Type 0} → Layout V → List ℕ → Option (List ℕ) → ℕ → ℕ → ErrorKind → Type 0
+IsWrongFront l message after old new kind =
+    (came : List ℕ) × (length came ≤ l.width) × (length came < l.width → IsAtEnd after ⊎ (new ≡ one_more old)) × (l.read came message ≡ Err kind)
 
 -- what a refusal tells of any device, its bytes known or not: memory ran out or what came is wrong, and one call may have failed;
 -- or the device failed with this kind of fault and counted it
-abbrev pub TellsRead : {V : Type 0} → Layout V → List ℕ → ℕ → ℕ → Option ErrorKind → NegoexError → Type 0
-TellsRead l message old new last e =
-    (((e.kind ≡ OutOfMemory) ⊎ IsWrongFront l message e.kind) × FailedAtMostOnce old new) ⊎ ((new ≡ one_more old) × (last ≡ Some e.kind))
+abbrev pub TellsRead : {V : Type 0} → Layout V → List ℕ → Option (List ℕ) → ℕ → ℕ → Option ErrorKind → NegoexError → Type 0
+TellsRead l message after old new last e =
+    (((e.kind ≡ OutOfMemory) ⊎ IsWrongFront l message after old new e.kind) × FailedAtMostOnce old new) ⊎ ((new ≡ one_more old) × (last ≡ Some e.kind))

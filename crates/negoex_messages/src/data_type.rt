@@ -100,7 +100,7 @@ pub trait NegoexDataType: Wide {
         ensures only { IfSome (R.left from.old) (λ bytes.
             IsGiven Self.view Self.layout message.now bytes (R.left from.new) (R.failed from.old) (R.failed from.new) (R.last_fault from.new) result) }
         ensures count { MatchResult result (λ _. R.failed from.new ≡ R.failed from.old)
-            (TellsRead Self.layout message.now (R.failed from.old) (R.failed from.new) (R.last_fault from.new)) }
+            (TellsRead Self.layout message.now (R.left from.new) (R.failed from.old) (R.failed from.new) (R.last_fault from.new)) }
         ensures refused { IfErr result (λ e. IfSome (R.left from.old) (λ bytes.
             IsRefusal Self.layout message.now bytes (R.left from.new) (R.failed from.old) (R.failed from.new) (R.last_fault from.new) e)) }
         ensures same { R.through from.new ≡ R.through from.old }

@@ -44,7 +44,7 @@ pub(crate) fn read_value<T: Laid, R: Source>(
     ensures only { IfSome (R.left from.old) (λ bytes.
         IsGiven T.view T.layout message.now bytes (R.left from.new) (R.failed from.old) (R.failed from.new) (R.last_fault from.new) result) }
     ensures count { MatchResult result (λ _. R.failed from.new ≡ R.failed from.old)
-        (TellsRead T.layout message.now (R.failed from.old) (R.failed from.new) (R.last_fault from.new)) }
+        (TellsRead T.layout message.now (R.left from.new) (R.failed from.old) (R.failed from.new) (R.last_fault from.new)) }
     ensures refused { IfErr result (λ e. IfSome (R.left from.old) (λ bytes.
         IsRefusal T.layout message.now bytes (R.left from.new) (R.failed from.old) (R.failed from.new) (R.last_fault from.new) e)) }
     ensures same { R.through from.new ≡ R.through from.old }

@@ -37,5 +37,7 @@ pub returns-in-Err-clause-count : goal.returns-in-Err-clause-count
 returns-in-Err-clause-count g c =
     let buffer = c.read_front-front.new.buffer in
     let count = c.read_front-front.result.count in
-    header-told g.T.Laid.layout c.read_front-front.result.fault _ _ _ (take count buffer) c.args.message.now _ _
-    (omega (arith, c.requires, length-take count buffer)) c.read_front-front.ensures.fault c.in-Err.ensures.exact c.cut_short.ensures
+    header-told g.T.Laid.layout (g.R.Source.left c.read_front-front.new.reader) c.read_front-front.result.fault _ _ _ (take count buffer) c.args.message.now _ _
+    (omega (arith, c.requires, length-take count buffer))
+    (λ none short. c.read_front-front.ensures.end none (omega (arith, short, c.requires, length-take count buffer)))
+    c.read_front-front.ensures.fault c.in-Err.ensures.exact c.cut_short.ensures
