@@ -94,7 +94,7 @@ impl LsapTokenInfoIntegrity {
             → MatchResult result (λ read. read ≡ r)
             (λ e. (R.failed reader.new ≡ one_more (R.failed reader.old)) × (R.last_fault reader.new ≡ Some e.kind))) }
         ensures refused { MatchResult result (λ _. R.failed reader.new ≡ R.failed reader.old)
-            (λ e. IsRecordStop (R.left reader.old) (R.failed reader.old) (R.failed reader.new) (R.last_fault reader.new) e.kind) }
+            (λ e. IsRecordStop (R.left reader.old) (R.left reader.new) (R.failed reader.old) (R.failed reader.new) (R.last_fault reader.new) e.kind) }
         ensures same { R.through reader.new ≡ R.through reader.old }
     {
         let mut bytes = [0; RECORD_LEN];

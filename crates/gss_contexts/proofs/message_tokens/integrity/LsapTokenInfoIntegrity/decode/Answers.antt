@@ -29,6 +29,7 @@ returns-then-count-lt-RECORD_LEN-clause-refused g c =
     inl (
       refl,
       c.in-Ok.ensures.count,
+      c.in-Ok.ensures.end (omega arith),
       short-record (g.R.Source.left c.args.reader.now) (g.R.Source.left c.read_full.new.reader) c.in-Ok.count c.read_full.new.buffer
           c.in-Ok.ensures.bytes (c.in-Ok.ensures.end (omega arith)) c.if-count-lt-RECORD_LEN.true,
     )
