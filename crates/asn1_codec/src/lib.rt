@@ -62,4 +62,4 @@ pub use sequence::Sequence;
 pub use sequence_writing::SequenceWriter;
 pub use ser::{Serialize, Serializer, to_byte_buf, to_bytes, to_vec, to_writer, write_octets};
 pub use tag_number::{IsTagNumber, TagNumber};
-pub use tagged::{Tagged, read_as, read_sequence};
+pub use tagged::{ReadImplicit, Tagged, WriteImplicit, read_as, read_sequence};

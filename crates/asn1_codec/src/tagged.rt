@@ -95,6 +95,78 @@ impl<T: Tagged> Deserialize for T {
     }
 }
 
+/// A type whose values are written under an implicit tag: another identifier octet in place of their own (X.690, section 8.14.3).
+///
+/// Each [`Tagged`] type is one, and so is a vector.
+pub trait WriteImplicit {
+    ghost use Rattle.asn1_der.specs.Seen.{Seen, Alike};
+    ghost use Rattle.asn1_der.specs.declared.error.Unsupported.{Unsupported};
+    ghost use Rattle.asn1_der.specs.Refusals.{refusal_of};
+    ghost use Rattle.asn1_codec.specs.Writing.{Writing, WroteValue, NotWroteValue};
+
+    /// The identifier octet of the type's own (X.690, section 8.1.2).
+    const OWN: u8;
+
+    ghost OWN: { ℕ };
+
+    // The value as a tree under each identifier octet.
+    ghost tree_under: { ℕ → Self → Tree };
+
+    // What two values of one spelling have in common.
+    ghost seen_under: { Seen Self };
+
+    ghost refusal_under: { Option (Self → Option Unsupported) };
+
+    ghost laws_under: { TagLawsAs (Alike seen_under) tree_under };
+
+    /// Writes the value under the identifier octet `tag`, and gives how many bytes that took.
+    fn write_under<W: Sink>(&self, tag: u8, to: &mut Serializer<W>) -> Result<usize, Asn1DerError>
+        ensures { MatchResult result
+            (WroteValue (refusal_of refusal_under self.now) (der (tree_under tag self.now)) to.old to.new)
+            (NotWroteValue (refusal_of refusal_under self.now) (der (tree_under tag self.now)) to.old to.new) };
+}
+
+/// A type whose values are read under an implicit tag, too.
+pub trait ReadImplicit: WriteImplicit + Sized {
+    ghost use Rattle.asn1_codec.specs.Reading.{Reading, TookValue, IsSpelling, Refused};
+
+    /// Takes a value under the identifier octet `tag`.
+    fn read_under<R: Source>(tag: u8, from: &mut Deserializer<R>) -> Result<Self, Asn1DerError>
+        ensures { MatchResult result
+            (λ value. TookValue (Self.tree_under tag) value from.old from.new)
+            (λ fault. Refused (IsSpelling (Self.tree_under tag)) from.old from.new fault) };
+}
+
+impl<T: Tagged> WriteImplicit for T {
+    ghost use Rattle.asn1_der.specs.Seen.{Alike};
+    ghost use Rattle.asn1_der.proofs.Tagged.{tagged-injective_as};
+
+    const OWN: u8 = T::FIRST;
+
+    ghost OWN = { T.FIRST };
+
+    ghost tree_under = { λ tag value. tagged_tree tag T.row_tree T.row_of value };
+
+    ghost seen_under = { T.seen };
+
+    ghost refusal_under = { T.refuses };
+
+    ghost laws_under = { record {
+      begins = λ octet value. T.row_laws.begins octet (T.row_of value);
+      injective = λ octet. tagged-injective_as (Alike T.row_seen) (Alike T.seen) octet T.row_tree T.row_laws T.row_of T.one_row;
+    } };
+
+    fn write_under<W: Sink>(&self, tag: u8, to: &mut Serializer<W>) -> Result<usize, Asn1DerError> {
+        self.write_row(tag, to)
+    }
+}
+
+impl<T: Tagged> ReadImplicit for T {
+    fn read_under<R: Source>(tag: u8, from: &mut Deserializer<R>) -> Result<Self, Asn1DerError> {
+        read_as(tag, from)
+    }
+}
+
 /// Takes a value under the identifier octet `tag`.
 ///
 /// A type that puts a tag in place of another type's own calls it.

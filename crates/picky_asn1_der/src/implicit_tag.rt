@@ -5,14 +5,15 @@ ghost use Rattle.asn1_der.specs.Firsts.{only};
 ghost use Rattle.asn1_der.specs.Tags.{implicit_octet};
 
 use asn1_codec::{
-    Deserialize, Deserializer, IsTagNumber, Serialize, Serializer, TagNumber, Tagged, read_as,
+    Deserialize, Deserializer, IsTagNumber, ReadImplicit, Serialize, Serializer, TagNumber,
+    WriteImplicit,
 };
 use asn1_der::Asn1DerError;
 use byte_streams::{Sink, Source};
 
 /// A value under the implicit context tag `N` (X.690, section 8.14.3), which is below 31.
 ///
-/// A choice has no identifier octet of its own, so it is no `Tagged` and can't stand beneath one (X.680, section 31.2.7).
+/// A choice has no identifier octet of its own, so it is no `WriteImplicit` and can't stand beneath one (X.680, section 31.2.7).
 #[derive(Clone, Copy, Debug, Drop, PartialEq, Eq)]
 pub struct ImplicitContextTag<const N: u8, T>(pub T);
 
@@ -24,47 +25,44 @@ impl<const N: u8, T> From<T> for ImplicitContextTag<N, T> {
     }
 }
 
-impl<const N: u8, T: Tagged> Serialize for ImplicitContextTag<N, T>
+impl<const N: u8, T: WriteImplicit> Serialize for ImplicitContextTag<N, T>
 where
     TagNumber<N>: IsTagNumber,
 {
-    ghost use Rattle.asn1_der.specs.Tagged.{tagged_tree};
-    ghost use Rattle.asn1_der.proofs.Tagged.{tagged-injective_as};
     ghost use Rattle.std.specs.Prelude.{refl};
     ghost use Rattle.asn1_der.specs.Seen.{Alike, seen_part};
+    ghost use Rattle.asn1_der.specs.Refusals.{part_refusal};
     ghost use Rattle.asn1_der.proofs.Alike.{alike-part};
 
-    ghost tree = { λ value. tagged_tree (implicit_octet T.FIRST N) T.row_tree T.row_of value.0 };
+    ghost tree = { λ value. T.tree_under (implicit_octet T.OWN N) value.0 };
 
-    ghost seen = { seen_part (λ value. value.0) T.seen };
+    ghost seen = { seen_part (λ value. value.0) T.seen_under };
 
-    ghost firsts = { only (implicit_octet T.FIRST N) };
+    ghost firsts = { only (implicit_octet T.OWN N) };
 
-    ghost begins = { λ value. T.row_laws.begins (implicit_octet T.FIRST N) (T.row_of value.0) };
+    ghost begins = { λ value. T.laws_under.begins (implicit_octet T.OWN N) value.0 };
 
-    ghost use Rattle.asn1_der.specs.Refusals.{part_refusal};
-
-    ghost refusal = { part_refusal (λ value. value.0) T.refuses };
+    ghost refusal = { part_refusal (λ value. value.0) T.refusal_under };
 
     ghost injective = { λ v w whole also e.
-        let same = tagged-injective_as (Alike T.row_seen) (Alike T.seen) (implicit_octet T.FIRST N) T.row_tree T.row_laws T.row_of T.one_row v.0 w.0 whole also e
-        in alike-part T.seen v w (λ value. value.0) (λ held. record { 0 = held }) (λ value. refl) same };
+        let same = T.laws_under.injective (implicit_octet T.OWN N) v.0 w.0 whole also e
+        in alike-part T.seen_under v w (λ value. value.0) (λ held. record { 0 = held }) (λ value. refl) same };
 
     fn serialize<W: Sink>(&self, to: &mut Serializer<W>) -> Result<usize, Asn1DerError> {
-        self.0.write_row(context_octet(T::FIRST, N), to)
+        self.0.write_under(context_octet(T::OWN, N), to)
     }
 }
 
-impl<const N: u8, T: Tagged> Deserialize for ImplicitContextTag<N, T>
+impl<const N: u8, T: ReadImplicit> Deserialize for ImplicitContextTag<N, T>
 where
     TagNumber<N>: IsTagNumber,
 {
     fn may_start(first: u8) -> bool {
-        first == context_octet(T::FIRST, N)
+        first == context_octet(T::OWN, N)
     }
 
     fn deserialize<R: Source>(from: &mut Deserializer<R>) -> Result<Self, Asn1DerError> {
-        let value = read_as(context_octet(T::FIRST, N), from)?;
+        let value = T::read_under(context_octet(T::OWN, N), from)?;
         Ok(ImplicitContextTag(value))
     }
 }

@@ -27,7 +27,7 @@ fn integers(rt: HostRuntime) {
 #[test]
 fn refused_integers(rt: HostRuntime) {
     let cases: &[(&[u8], Asn1DerError)] = &[
-        (&[2, 0], Asn1DerError::TruncatedData),
+        (&[2, 0], Asn1DerError::InvalidData),
         (&[2, 1, 0x80], Asn1DerError::UnsupportedValue),
         (&[2, 2, 0, 0x7F], Asn1DerError::InvalidData),
         (&[2, 5, 1, 0, 0, 0, 0], Asn1DerError::UnsupportedValue),

@@ -29,7 +29,20 @@ fn refused_lists(rt: HostRuntime) {
     let fault = fault_of::<Vec<u16>>(rt.alloc(), &[0x30, 5, 2, 3, 1, 0, 0]);
     assert!(rt; fault == Some(Asn1DerError::UnsupportedValue));
     let fault = fault_of::<Vec<u16>>(rt.alloc(), &[0x30, 4, 2, 1, 5, 2]);
-    assert!(rt; fault == Some(Asn1DerError::TruncatedData));
+    assert!(rt; fault == Some(Asn1DerError::InvalidData));
+}
+
+// Texts that are borrowed are written alone.
+fn is_list_of_texts(alloc: Global) -> Option<bool> {
+    let texts = Vec::from_slice(alloc, &["Bo", "Cy"]).ok()?;
+    let is_plain = is_written(alloc, &texts, b"\x30\x08\x0C\x02Bo\x0C\x02Cy");
+    let tagged = ImplicitContextTag2::from(texts);
+    Some(is_plain && is_written(alloc, &tagged, b"\xA2\x08\x0C\x02Bo\x0C\x02Cy"))
+}
+
+#[test]
+fn lists_of_borrowed_texts(rt: HostRuntime) {
+    assert!(rt; is_list_of_texts(rt.alloc()) == Some(true));
 }
 
 fn is_text(alloc: Global, text: &str, bytes: &[u8]) -> bool {
