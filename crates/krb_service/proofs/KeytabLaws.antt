@@ -1,10 +1,10 @@
 -- The laws of services of keytabs.
-use Rattle.std.proofs.Common.{◌≡◌, ◌≤◌, ◌↔◌, ℕ, ◌+◌, Bool, true, false, cond, not, ◌&&◌, List, [], ◌∷◌, ◌++◌, length, max, Option, None, Some, Result, Ok, Err, inl, inr, refl, sym, ap, subst, ◌∙◌, arith}
+use Rattle.std.proofs.Common.{◌≡◌, ◌≤◌, ◌↔◌, ◌⊎◌, ℕ, Bool, true, false, cond, not, ◌&&◌, List, [], ◌∷◌, ◌++◌, length, Option, None, Some, Result, Ok, Err, inl, inr, refl, sym, ap, subst, ◌∙◌, arith}
 use Rattle.std.specs.Prelude.{ℤ}
 use Rattle.std.proofs.lemmas.Bool.{and_from, both_ways, or_left}
 use Rattle.std.proofs.lemmas.List.Folds.{list_any-append}
 use Rattle.std.specs.List.{All, find, list_any}
-use Rattle.std.specs.Option.{option_map_or}
+use Rattle.std.specs.Option.{option_map_or, unwrap_or}
 use Rattle.block_ciphers.specs.Bytes.{IsBytes}
 use Rattle.picky_asn1.specs.BitString.{bit_of}
 use Rattle.picky_asn1.specs.Numbers.{is_number}
@@ -22,17 +22,16 @@ use Rattle.krb_ap_requests.specs.declared.refusal.AdmitRefusal.{AdmitRefusal}
 use Rattle.krb_ap_requests.specs.declared.refusal.AdmitRefusal.TheVariants.{Unreadable, Krb, Memory}
 use Rattle.krb_service.specs.Admissible.{IsAdmissible}
 use Rattle.krb_service.specs.Admission.{AdmissionRecord, TellsOf}
-use Rattle.krb_service.specs.OnceForEver.{AreOnce, admissions_in}
 use Rattle.krb_service.specs.Pair.{PairRecord}
-use Rattle.krb_service.specs.RememberingService.{Outcome, remembering}
-use Rattle.krb_service.specs.Runs.{AdmissionCall, IsAnswered, IsRun}
+use Rattle.krb_service.specs.RememberingService.{IsStep, Outcome, remembering, remembering_by, remembering_with}
 use Rattle.krb_service.specs.Seen.{SeenRecord}
 use Rattle.krb_service.specs.Service.{ServiceRecord}
+use Rattle.krb_service.specs.declared.reply.ReplyFields.{ReplyFields}
 use Rattle.krb_service.proofs.Admitting as single
-use Rattle.krb_service.proofs.OnceForEver as single_runs
+use Rattle.krb_service.proofs.Running.{step_by}
 use Rattle.krb_service.specs.ChosenEntry.{IsOtherwiseFor, IsPresentedTo, chosen, has_kvno_of, is_fitted, is_fitting, no_entry, unfit_code_of}
-use Rattle.krb_service.specs.KeytabRuns.{AnswerAlike, IsKeytabRun, KeytabCall}
-use Rattle.krb_service.specs.KeytabService.{AreOwnEntries, IsOwnEntry, KeytabServiceRecord, remembering_by_keytab, service_for}
+use Rattle.krb_service.specs.KeytabRuns.{AnswerAlike, JudgesOf}
+use Rattle.krb_service.specs.KeytabService.{AreOwnEntries, IsOwnEntry, KeytabServiceRecord, keytab_service_of, remembering_by_keytab, remembering_by_keytab_with, service_for}
 use Rattle.krb_service.proofs.Finding.{first_fails, first_has, found, found_earlier, found_without, same_first, second_test}
 
 abbrev with_entry : EntryRecord → SeenRecord → ServiceRecord
@@ -73,47 +72,130 @@ has_outcome service moment admitted message words long words_bytes =
     has_asked (IsApReq message) (sole_ap_req message) (done none) (λ request. remembering (service_for service request) moment admitted message words) (has_done none)
     (λ request found. single.has_outcome (service_for service request) moment admitted message words long words_bytes)
 
--- each outcome is one of the service of one key, with some entry
-of_entry : (service : KeytabServiceRecord) (moment : ℕ) (admitted : List PairRecord) (message words : List ℕ) (outcome : Outcome)
-    → (remembering_by_keytab service moment admitted message words).gives outcome
-    → (entry : EntryRecord) × (remembering (with_entry entry service.seen) moment admitted message words).gives outcome
-unfolding remembering_by_keytab remembering
-of_entry service moment admitted message words outcome (inl (request, found, x)) = (chosen service.entries (enc_part_in request), x)
-of_entry service moment admitted message words outcome (inr (none, e)) = (no_entry, inr (none, e))
+-- each outcome is one of some entry, and of each that judges the bytes
+of_entry : (service : KeytabServiceRecord) (fields : ReplyFields) (moment : ℕ) (admitted : List PairRecord) (message words : List ℕ) (outcome : Outcome)
+    → (remembering_by_keytab_with fields service moment admitted message words).gives outcome
+    → (entry : EntryRecord) × (remembering_by entry service.seen.skew fields moment admitted message words).gives outcome
+unfolding remembering_by_keytab_with remembering_with remembering_by
+of_entry service fields moment admitted message words outcome (inl (request, found, x)) = (chosen service.entries (enc_part_in request), x)
+of_entry service fields moment admitted message words outcome (inr (none, e)) = (no_entry, inr (none, e))
 
-answered_of : (service : KeytabServiceRecord) (moment : ℕ) (admitted : List PairRecord) (message words : List ℕ) (answer : Result AdmissionRecord AdmitRefusal) (next : List PairRecord)
-    → IsAnswered (remembering_by_keytab service moment admitted message words).gives admitted answer next
-    → (entry : EntryRecord) × IsAnswered (remembering (with_entry entry service.seen) moment admitted message words).gives admitted answer next
-answered_of service moment admitted message words (Ok a) next x = of_entry service moment admitted message words (Ok a, next) x
-answered_of service moment admitted message words (Err Unreadable) next x = of_entry service moment admitted message words (Err Unreadable, next) x
-answered_of service moment admitted message words (Err (Krb code)) next x = of_entry service moment admitted message words (Err (Krb code), next) x
-answered_of service moment admitted message words (Err Memory) next x = (no_entry, x)
+-- what the service of one key answers that has an entry
+by_service : (entry : EntryRecord) (seen : SeenRecord) (fields : ReplyFields) (moment : ℕ) (admitted : List PairRecord) (message words : List ℕ) (outcome : Outcome)
+    → (remembering_with fields (with_entry entry seen) moment admitted message words).gives outcome → (remembering_by entry seen.skew fields moment admitted message words).gives outcome
+unfolding remembering_with remembering_by
+by_service entry seen fields moment admitted message words outcome x = x
 
--- a call of a run is a run of the service of one key
-one_run : (service : ServiceRecord) (greatest : ℕ) (admitted next : List PairRecord) (call : AdmissionCall) (answer : Result AdmissionRecord AdmitRefusal)
-    → IsAnswered (remembering service (max greatest call.moment) admitted call.message call.words).gives admitted answer next
-    → IsRun service greatest admitted (call ∷ []) (answer ∷ []) next
-unfolding IsRun
-one_run service greatest admitted next call answer x = (next, x, refl)
+no_request : (entry : EntryRecord) (skew : ℕ) (fields : ReplyFields) (moment : ℕ) (admitted : List PairRecord) (message words : List ℕ) (outcome : Outcome)
+    → ((request : ApReqInner) → IsApReq message request → ⊥) → outcome ≡ (Err Unreadable, admitted) → (remembering_by entry skew fields moment admitted message words).gives outcome
+unfolding remembering_by
+no_request entry skew fields moment admitted message words outcome none e = inr (none, e)
 
-counted : (answer : Result AdmissionRecord AdmitRefusal) (answers : List (Result AdmissionRecord AdmitRefusal)) (before next after : ℕ)
-    → next ≡ admissions_in (answer ∷ []) + before → after ≡ admissions_in answers + next → after ≡ admissions_in (answer ∷ answers) + before
-counted (Ok a) answers before next after one rest = omega (arith, one, rest)
-counted (Err e) answers before next after one rest = omega (arith, one, rest)
+by_judging : (service : KeytabServiceRecord) (fields : ReplyFields) (moment : ℕ) (admitted : List PairRecord) (message words : List ℕ) (entry : EntryRecord) → JudgesOf service.entries message entry
+    → (outcome : Outcome) → (remembering_by_keytab_with fields service moment admitted message words).gives outcome
+    → (remembering_by entry service.seen.skew fields moment admitted message words).gives outcome
+unfolding remembering_by_keytab_with
+by_judging service fields moment admitted message words entry judges outcome (inl (request, found, x)) =
+    subst (λ (e : EntryRecord). (remembering_by e service.seen.skew fields moment admitted message words).gives outcome) (sym (judges request found))
+    (by_service (chosen service.entries (enc_part_in request)) service.seen fields moment admitted message words outcome x)
+by_judging service fields moment admitted message words entry judges outcome (inr (none, e)) =
+    no_request entry service.seen.skew fields moment admitted message words outcome none e
 
-pub once_for_ever : (service : KeytabServiceRecord) (greatest : ℕ) (admitted : List PairRecord) (calls : List KeytabCall) (answers : List (Result AdmissionRecord AdmitRefusal)) (after : List PairRecord)
-    → AreOnce admitted → IsKeytabRun service greatest admitted calls answers after → AreOnce after × (length after ≡ admissions_in answers + length admitted)
-unfolding IsKeytabRun
-once_for_ever service greatest admitted [] [] after once e = (subst AreOnce (sym e) once, omega (arith, ap (λ (pairs : List PairRecord). length pairs) e))
-once_for_ever service greatest admitted [] (answer ∷ answers) after once none = absurd none
-once_for_ever service greatest admitted (call ∷ calls) [] after once none = absurd none
-once_for_ever service greatest admitted (call ∷ calls) (answer ∷ answers) after once (next, answered, rest) =
-    let asked = call.asked in
-    let by = answered_of (record service { entries = call.entries }) (max greatest asked.moment) admitted asked.message asked.words answer next answered in
-    let own = with_entry by.0 service.seen in
-    let one = single_runs.once_for_ever own greatest admitted (asked ∷ []) (answer ∷ []) next once (one_run own greatest admitted next asked answer by.1) in
-    let others = once_for_ever service (max greatest asked.moment) next calls answers after one.0 rest in
-    (others.0, counted answer answers (length admitted) (length next) (length after) one.1 others.1)
+-- so is each call
+pub call_of_some : (service : KeytabServiceRecord) (fields : ReplyFields) (moment : ℕ) (admitted : List PairRecord) (message words : List ℕ) (answer : Result AdmissionRecord AdmitRefusal) (seen : SeenRecord)
+    → IsStep (remembering_by_keytab_with fields service moment admitted message words).gives admitted answer seen
+    → (entry : EntryRecord) × IsStep (remembering_by entry service.seen.skew fields moment admitted message words).gives admitted answer seen
+unfolding IsStep
+call_of_some service fields moment admitted message words (Ok a) seen (after, given, window) =
+    let by = of_entry service fields moment admitted message words (Ok a, after) given in (by.0, (after, by.1, window))
+call_of_some service fields moment admitted message words (Err Unreadable) seen (after, given, window) =
+    let by = of_entry service fields moment admitted message words (Err Unreadable, after) given in (by.0, (after, by.1, window))
+call_of_some service fields moment admitted message words (Err (Krb code)) seen (after, given, window) =
+    let by = of_entry service fields moment admitted message words (Err (Krb code), after) given in (by.0, (after, by.1, window))
+call_of_some service fields moment admitted message words (Err Memory) seen window = (no_entry, window)
+
+pub call_of_each : (service : KeytabServiceRecord) (fields : ReplyFields) (moment : ℕ) (admitted : List PairRecord) (message words : List ℕ) (answer : Result AdmissionRecord AdmitRefusal) (seen : SeenRecord)
+    (entry : EntryRecord) → JudgesOf service.entries message entry
+    → IsStep (remembering_by_keytab_with fields service moment admitted message words).gives admitted answer seen
+    → IsStep (remembering_by entry service.seen.skew fields moment admitted message words).gives admitted answer seen
+call_of_each service fields moment admitted message words answer seen entry judges x =
+    step_by (remembering_by_keytab_with fields service moment admitted message words).gives (remembering_by entry service.seen.skew fields moment admitted message words).gives admitted answer seen
+    (by_judging service fields moment admitted message words entry judges) x
+
+-- the one entry of a keytab judges each request
+sole : (p q : Bool) (entry : EntryRecord) → unwrap_or (cond p (Some entry) None) (unwrap_or (cond q (Some entry) None) entry) ≡ entry
+sole true q entry = refl
+sole false true entry = refl
+sole false false entry = refl
+
+chosen_sole : (entry : EntryRecord) (encrypted : EncryptedData) → chosen (entry ∷ []) encrypted ≡ entry
+unfolding chosen
+chosen_sole entry encrypted = sole (is_fitting encrypted entry) (has_kvno_of encrypted entry) entry
+
+unread : (service : ServiceRecord) (fields : ReplyFields) (moment : ℕ) (admitted : List PairRecord) (message words : List ℕ) (outcome : Outcome)
+    → ((request : ApReqInner) → IsApReq message request → ⊥) → outcome ≡ (Err Unreadable, admitted) → (remembering_with fields service moment admitted message words).gives outcome
+unfolding remembering_with
+unread service fields moment admitted message words outcome none e = inr (none, e)
+
+pub from_sole : (service : ServiceRecord) (fields : ReplyFields) (moment : ℕ) (admitted : List PairRecord) (message words : List ℕ) (outcome : Outcome)
+    → (remembering_by_keytab_with fields (keytab_service_of service) moment admitted message words).gives outcome → (remembering_with fields service moment admitted message words).gives outcome
+unfolding remembering_by_keytab_with remembering_with
+from_sole service fields moment admitted message words outcome (inl (request, found, x)) =
+    subst (λ (e : EntryRecord). (remembering_with fields (with_entry e service.seen) moment admitted message words).gives outcome) (chosen_sole service.entry (enc_part_in request)) x
+from_sole service fields moment admitted message words outcome (inr (none, e)) = unread service fields moment admitted message words outcome none e
+
+-- what a service of one key answers to bytes is answered to their request, or they are none
+read_or_none : (service : ServiceRecord) (fields : ReplyFields) (moment : ℕ) (admitted : List PairRecord) (message words : List ℕ) (outcome : Outcome)
+    → (remembering_with fields service moment admitted message words).gives outcome
+    → ((request : ApReqInner) × IsApReq message request) ⊎ (((request : ApReqInner) → IsApReq message request → ⊥) × (outcome ≡ (Err Unreadable, admitted)))
+unfolding remembering_with
+read_or_none service fields moment admitted message words outcome (inl (request, found, x)) = inl (request, found)
+read_or_none service fields moment admitted message words outcome (inr (none, e)) = inr (none, e)
+
+to_sole_by : (service : ServiceRecord) (fields : ReplyFields) (moment : ℕ) (admitted : List PairRecord) (message words : List ℕ) (outcome : Outcome)
+    → ((request : ApReqInner) × IsApReq message request) ⊎ (((request : ApReqInner) → IsApReq message request → ⊥) × (outcome ≡ (Err Unreadable, admitted)))
+    → (remembering_with fields service moment admitted message words).gives outcome → (remembering_by_keytab_with fields (keytab_service_of service) moment admitted message words).gives outcome
+unfolding remembering_by_keytab_with remembering_with
+to_sole_by service fields moment admitted message words outcome (inl (request, found)) x =
+    inl (
+      request,
+      found,
+      subst (λ (e : EntryRecord). (remembering_with fields (with_entry e service.seen) moment admitted message words).gives outcome) (sym (chosen_sole service.entry (enc_part_in request))) x,
+    )
+to_sole_by service fields moment admitted message words outcome (inr (none, e)) x = inr (none, e)
+
+pub to_sole : (service : ServiceRecord) (fields : ReplyFields) (moment : ℕ) (admitted : List PairRecord) (message words : List ℕ) (outcome : Outcome)
+    → (remembering_with fields service moment admitted message words).gives outcome → (remembering_by_keytab_with fields (keytab_service_of service) moment admitted message words).gives outcome
+to_sole service fields moment admitted message words outcome x =
+    to_sole_by service fields moment admitted message words outcome (read_or_none service fields moment admitted message words outcome x) x
+
+pub sole_answers : (service : ServiceRecord) (fields : ReplyFields) (moment : ℕ) (admitted : List PairRecord) (message words : List ℕ) (outcome : Outcome)
+    → (remembering_by_keytab_with fields (keytab_service_of service) moment admitted message words).gives outcome ↔ (remembering_with fields service moment admitted message words).gives outcome
+sole_answers service fields moment admitted message words outcome =
+    (from_sole service fields moment admitted message words outcome, to_sole service fields moment admitted message words outcome)
+
+pub step_from_sole : (service : ServiceRecord) (fields : ReplyFields) (moment : ℕ) (admitted : List PairRecord) (message words : List ℕ) (answer : Result AdmissionRecord AdmitRefusal) (seen : SeenRecord)
+    → IsStep (remembering_by_keytab_with fields (keytab_service_of service) moment admitted message words).gives admitted answer seen
+    → IsStep (remembering_with fields service moment admitted message words).gives admitted answer seen
+step_from_sole service fields moment admitted message words answer seen x =
+    step_by (remembering_by_keytab_with fields (keytab_service_of service) moment admitted message words).gives (remembering_with fields service moment admitted message words).gives admitted answer seen
+    (from_sole service fields moment admitted message words) x
+
+pub sole_presents : (entry : EntryRecord) (choice : Choice) (message : List ℕ) → IsPresentedTo (entry ∷ []) choice message ↔ Presents entry.key choice message
+sole_presents entry choice message = (
+  λ x. subst (λ (e : EntryRecord). Presents e.key choice message) (chosen_sole entry (enc_part_in x.0)) x.2,
+  λ y. let made = request_of choice.outer y.part_cipher y.cipher in
+      (made, y.writes, subst (λ (e : EntryRecord). Presents e.key choice message) (sym (chosen_sole entry (enc_part_in made))) y),
+)
+
+-- what is admitted with any fields was presented to the entries
+pub presented_to : (service : KeytabServiceRecord) (fields : ReplyFields) (moment : ℕ) (admitted : List PairRecord) (message words : List ℕ) (admission : AdmissionRecord) (after : List PairRecord)
+    → (remembering_by_keytab_with fields service moment admitted message words).gives (Ok admission, after) → (choice : Choice) × IsPresentedTo service.entries choice message × TellsOf choice admission
+unfolding remembering_by_keytab_with
+presented_to service fields moment admitted message words admission after (inl (request, is, x)) =
+    let by = single.presented_with fields (service_for service request) moment admitted message words admission after x in (by.0, (request, is, by.1), by.2)
+presented_to service fields moment admitted message words admission after (inr (none, never)) =
+    absurd (let refused = ap (λ (outcome : Outcome). outcome.0) never in cc (refused))
 
 -- lists of entries by which a request is judged by the same entry answer alike
 alike : (service : KeytabServiceRecord) (entries others : List EntryRecord) (message : List ℕ) (request : ApReqInner) → IsApReq message request

@@ -43,3 +43,7 @@ entry_of realm components key_record =
 -- The service's entries in a keytab, in its order. Others are passed over.
 abbrev pub entries_of : Bytes → List Bytes → List Entry → List EntryRecord
 entries_of realm components keytab = filter_map (entry_of realm components) keytab
+
+-- a keytab has an entry of the service
+abbrev pub has_entry : Bytes → List Bytes → List Entry → Bool
+has_entry realm components keytab = nat_le 1 (length (entries_of realm components keytab))

@@ -1,5 +1,5 @@
 -- A service whose keys are a keytab's (RFC 4120, section 3.2.3): its realm and name, its entries, and what it has seen.
-use Rattle.std.specs.Prelude.{◌≡◌, ◌≤◌, ◌*◌, ◌||◌, not, nat_le, List, [], length, Result, Ok, Err, if◌then◌else◌}
+use Rattle.std.specs.Prelude.{◌≡◌, ◌≤◌, ◌*◌, ◌||◌, not, nat_le, List, [], ◌∷◌, length, Result, Ok, Err, if◌then◌else◌}
 use Rattle.std.specs.List.{All}
 use Rattle.picky_asn1.specs.Bytes.{Bytes}
 use Rattle.decision_tables.specs.Tables.{Table, ask, done}
@@ -16,11 +16,12 @@ use Rattle.krb_ap_requests.specs.declared.presented.Presented.{Presented}
 use Rattle.krb_ap_requests.specs.declared.refusal.AdmitRefusal.{AdmitRefusal}
 use Rattle.krb_ap_requests.specs.declared.refusal.AdmitRefusal.TheVariants.{Unreadable, Krb, Memory}
 use Rattle.krb_service.specs.Pair.{PairRecord}
-use Rattle.krb_service.specs.RememberingService.{Outcome, remembering}
+use Rattle.krb_service.specs.RememberingService.{Outcome, remembering, remembering_with}
 use Rattle.krb_service.specs.Seen.{IsWholeSeconds, SeenRecord}
 use Rattle.krb_service.specs.Service.{IsServiceEntry, ServiceRecord}
 use Rattle.krb_service.specs.ChosenEntry.{chosen}
 use Rattle.krb_service.specs.KeytabEntries.{entries_of}
+use Rattle.krb_service.specs.declared.reply.ReplyFields.{ReplyFields}
 use Rattle.krb_service.specs.declared.keytab_service.refusal.KeytabServiceRefusal.{KeytabServiceRefusal}
 use Rattle.krb_service.specs.declared.keytab_service.refusal.KeytabServiceRefusal.TheVariants.{BadName, BadSetting, NoKey}
 
@@ -67,15 +68,30 @@ made realm components keytab skew = record {
 abbrev pub service_for : KeytabServiceRecord → ApReqInner → ServiceRecord
 service_for service request = record { entry = chosen service.entries (enc_part_in request); seen = service.seen }
 
--- What a service of a keytab answers to bytes that has admitted these pairs, under whatever entry, and was handed this moment as the
--- greatest: what the service of one key answers whose entry judges the request (RFC 4120, section 3.2.3).
-unfoldable pub remembering_by_keytab : KeytabServiceRecord → Micros → List PairRecord → Bytes → Random → Table Outcome
-remembering_by_keytab service moment admitted message words =
+-- the service of a keytab that has one entry: that of this service of one key
+abbrev pub keytab_service_of : ServiceRecord → KeytabServiceRecord
+keytab_service_of service =
+    record { realm = service.entry.realm; components = service.entry.components; entries = service.entry ∷ []; seen = service.seen }
+
+-- what a service of a keytab answers to bytes, by what the service of one key answers whose entry judges the request
+abbrev pub by_chosen : KeytabServiceRecord → List PairRecord → Bytes → (ServiceRecord → Table Outcome) → Table Outcome
+by_chosen service admitted message answer =
     -- The bytes are the DER encoding of one AP-REQ (RFC 4120, section 5.5.1). Test: `no request` of `keytab_rows.txt`.
     ask (IsApReq message) (sole_ap_req message) (done (Err Unreadable, admitted)) (λ request.
     -- Replay cache: a client and time that were admitted under one entry aren't admitted under another (RFC 4120, section 3.2.3).
     -- Test: `again under another key` of `keytab_rows.txt`.
-    remembering (service_for service request) moment admitted message words)
+    answer (service_for service request))
+
+-- What a service of a keytab answers to bytes that has admitted these pairs, under whatever entry, and was handed this moment as the
+-- greatest: what the service of one key answers whose entry judges the request (RFC 4120, section 3.2.3).
+unfoldable pub remembering_by_keytab : KeytabServiceRecord → Micros → List PairRecord → Bytes → Random → Table Outcome
+remembering_by_keytab service moment admitted message words =
+    by_chosen service admitted message (λ one. remembering one moment admitted message words)
+
+-- what it answers with these fields in its replies
+unfoldable pub remembering_by_keytab_with : ReplyFields → KeytabServiceRecord → Micros → List PairRecord → Bytes → Random → Table Outcome
+remembering_by_keytab_with fields service moment admitted message words =
+    by_chosen service admitted message (λ one. remembering_with fields one moment admitted message words)
 
 -- what bytes present by the entry that judges them, or what they are refused for, or that they are of no request; or memory ran out
 unfoldable pub ReceivesByKeytab : List EntryRecord → Micros → Micros → Bytes → Result Presented AdmitRefusal → Type 0

@@ -6,10 +6,11 @@
 //! their keys were added, so that is the oldest.
 //!
 //! `KeytabService::admit` answers as the service of one key does that has the entry by which the request is judged (`remembering_by_keytab`,
-//! law `as_one_key`). Over any list of calls, with any entries at each call, it admits no client and time twice (law `once_for_ever`). An
-//! entry that is added or taken away changes no answer to a ticket that another entry fits before it, or that it doesn't fit (law
-//! `other_entries_alone`). What no entry fits is refused for its kvno or its etype (law `unfit_is_refused`). The entries are the keytab's
-//! records of the service's realm and name, of each kvno from 1 on and each suite, in their order, and no others (`entries_of`).
+//! law `as_one_key`). Each call is one of a run, with any entries (law `calls_of_runs`). So over any list of calls it admits no client and
+//! time twice (laws `run_goes_on`, `once_for_ever` of `crate::laws`). An entry that is added or taken away changes no answer to a ticket
+//! that another entry fits before it, or that it doesn't fit (law `other_entries_alone`). What no entry fits is refused for its kvno or its
+//! etype (law `unfit_is_refused`). The entries are the keytab's records of the service's realm and name, of each kvno from 1 on and each
+//! suite, in their order, and no others (`entries_of`).
 
 mod choosing;
 mod entries;

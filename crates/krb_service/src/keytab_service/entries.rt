@@ -1,7 +1,10 @@
 //! The service's entries in a keytab.
-ghost use Rattle.std.specs.Prelude.{◌≡◌, ◌⊎◌, IfOk, MatchResult};
-ghost use Rattle.krb_service.specs.KeytabEntries.{entries_of, entry_of, entry_with, is_counted, is_record_of, key_of};
+ghost use Rattle.std.specs.Prelude.{◌≡◌, ◌⊎◌, Ok, Err, IfOk, MatchResult, is_some};
+ghost use Rattle.krb_messages.specs.Names.{is_same_name};
+ghost use Rattle.krb_realm_accounts.specs.Names.{parts};
+ghost use Rattle.krb_service.specs.KeytabEntries.{entries_of, entry_of, entry_with, has_entry, is_counted, is_record_of, key_of};
 ghost use Rattle.krb_service.specs.KeytabService.{giving};
+ghost use Rattle.krb_service.specs.declared.keytab_service.refusal.KeytabServiceRefusal.{KeytabServiceRefusal};
 ghost use Rattle.krb_service.specs.declared.keytab_service.refusal.KeytabServiceRefusal.TheVariants.{Memory};
 
 use crate::KeytabEntry;
@@ -12,6 +15,47 @@ use krb_messages::{is_same_name, is_same_realm};
 use picky_asn1::wrapper::GeneralStringAsn1;
 use std::alloc::{AllocError, Global};
 
+/// Whether a keytab has an entry of the service of this realm and this name. It takes no memory.
+#[tactic(auto, using(crate::proofs::HasEntry::some_entry))]
+pub(crate) fn has_entry(realm: &[u8], name: &[Vec<u8>], keytab: &Keytab) -> bool
+    ensures { result ≡ has_entry realm.now (parts name.now) keytab.now }
+{
+    keytab
+        .records()
+        .iter()
+        .any(|key_record| is_entry(realm, name, key_record))
+}
+
+// Whether a key record is an entry of the service of this realm and this name.
+#[tactic(auto, using(crate::proofs::HasEntry::entry_is))]
+fn is_entry(realm: &[u8], name: &[Vec<u8>], key_record: &KeytabRecord) -> bool
+    ensures { result ≡ is_some (entry_of realm.now (parts name.now) key_record.now) }
+{
+    has_name(realm, name, key_record) && 1 <= key_record.kvno() && key_of(key_record).is_some()
+}
+
+// Whether a key record is of this realm and this name.
+fn has_name(realm: &[u8], name: &[Vec<u8>], key_record: &KeytabRecord) -> bool
+    ensures { result ≡ is_record_of realm.now (parts name.now) key_record.now }
+{
+    key_record.realm().as_bytes() == realm && has_components(key_record.components(), name)
+}
+
+// Whether these are the components of a name.
+fn has_components(components: &[GeneralStringAsn1], name: &[Vec<u8>]) -> bool
+    ensures { result ≡ is_same_name components.now (parts name.now) }
+{
+    if components.len() != name.len() {
+        return false;
+    }
+    for (place, component) in components.iter().enumerate() {
+        if component.as_bytes() != name[place].as_slice() {
+            return false;
+        }
+    }
+    true
+}
+
 /// The entries of the service of this realm and this name in a keytab. Where it has none it is refused (`NoKey`).
 pub(crate) fn own_entries(
     alloc: Global,
@@ -19,15 +63,41 @@ pub(crate) fn own_entries(
     name: &[GeneralStringAsn1],
     keytab: &Keytab,
 ) -> Result<Vec<KeytabEntry>, KeytabServiceRefusal>
-    ensures { MatchResult result
+    ensures given { MatchResult result
         (λ entries. (entries.items ≡ entries_of realm.now name.now keytab.now) × (giving (entries_of realm.now name.now keytab.now) ≡ Ok tt))
         (λ refusal. (refusal ≡ Memory) ⊎ (giving (entries_of realm.now name.now keytab.now) ≡ Err refusal)) }
+
+    // Running out of memory hides no other refusal.
+    ensures first { (refusal : KeytabServiceRefusal) → giving (entries_of realm.now name.now keytab.now) ≡ Err refusal → result ≡ Err refusal }
 {
-    let entries = entries_of(alloc, realm, name, keytab)?;
-    if entries.is_empty() {
+    if !has_own_entry(realm, name, keytab) {
         return Err(KeytabServiceRefusal::NoKey);
     }
+    let entries = entries_of(alloc, realm, name, keytab)?;
     Ok(entries)
+}
+
+// Whether a keytab has an entry of this realm and this name.
+#[tactic(auto, using(crate::proofs::HasEntry::some_entry))]
+fn has_own_entry(realm: &GeneralStringAsn1, name: &[GeneralStringAsn1], keytab: &Keytab) -> bool
+    ensures { result ≡ has_entry realm.now name.now keytab.now }
+{
+    keytab
+        .records()
+        .iter()
+        .any(|key_record| is_own_entry(realm, name, key_record))
+}
+
+// Whether a key record is an entry of this realm and this name.
+#[tactic(auto, using(crate::proofs::HasEntry::entry_is))]
+fn is_own_entry(
+    realm: &GeneralStringAsn1,
+    name: &[GeneralStringAsn1],
+    key_record: &KeytabRecord,
+) -> bool
+    ensures { result ≡ is_some (entry_of realm.now name.now key_record.now) }
+{
+    is_counted(realm, name, key_record) && key_of(key_record).is_some()
 }
 
 // The entries of this realm and this name.

@@ -1,5 +1,5 @@
 //! What holds of every service of a keytab.
-ghost use Rattle.std.specs.Prelude.{◌≡◌, ◌≤◌, ◌+◌, ◌++◌, ℕ, true, false, List, ◌∷◌, Result, Ok, Err, length, ◌↔◌};
+ghost use Rattle.std.specs.Prelude.{◌≡◌, ◌≤◌, ◌++◌, ℕ, true, false, List, [], ◌∷◌, Result, Ok, Err, length, ◌↔◌};
 ghost use Rattle.krb_messages.specs.RandomBytes.{AreEnoughForApReply};
 ghost use Rattle.block_ciphers.specs.Bytes.{IsBytes};
 ghost use Rattle.decision_tables.specs.Some.{HasSome};
@@ -7,16 +7,18 @@ ghost use Rattle.krb_messages.specs.Messages.{IsApReq};
 ghost use Rattle.krb_messages.specs.declared.messages.ap_req.ApReqInner.{ApReqInner};
 ghost use Rattle.krb_ap_requests.specs.ApTable.{enc_part_in};
 ghost use Rattle.krb_ap_requests.specs.Entry.{EntryRecord};
-ghost use Rattle.krb_ap_requests.specs.Presents.{Choice};
+ghost use Rattle.krb_ap_requests.specs.Presents.{Choice, Presents};
 ghost use Rattle.krb_ap_requests.specs.declared.refusal.AdmitRefusal.{AdmitRefusal};
 ghost use Rattle.krb_ap_requests.specs.declared.refusal.AdmitRefusal.TheVariants.{Krb};
 ghost use Rattle.krb_service.specs.Admission.{AdmissionRecord, TellsOf};
-ghost use Rattle.krb_service.specs.OnceForEver.{AreOnce, admissions_in};
 ghost use Rattle.krb_service.specs.Pair.{PairRecord};
-ghost use Rattle.krb_service.specs.RememberingService.{Outcome, remembering};
+ghost use Rattle.krb_service.specs.RememberingService.{IsStep, Outcome, remembering, remembering_by, remembering_with};
+ghost use Rattle.krb_service.specs.Seen.{SeenRecord};
+ghost use Rattle.krb_service.specs.Service.{ServiceRecord};
+ghost use Rattle.krb_service.specs.declared.reply.ReplyFields.{ReplyFields};
 ghost use Rattle.krb_service.specs.ChosenEntry.{IsOtherwiseFor, IsPresentedTo, is_fitted, is_fitting, unfit_code_of};
-ghost use Rattle.krb_service.specs.KeytabRuns.{AnswerAlike, IsKeytabRun, KeytabCall};
-ghost use Rattle.krb_service.specs.KeytabService.{AreOwnEntries, KeytabServiceRecord, remembering_by_keytab, service_for};
+ghost use Rattle.krb_service.specs.KeytabRuns.{AnswerAlike, JudgesOf};
+ghost use Rattle.krb_service.specs.KeytabService.{AreOwnEntries, KeytabServiceRecord, keytab_service_of, remembering_by_keytab, remembering_by_keytab_with, service_for};
 
 /// The outcomes of a request are those of the service of one key that has the entry by which the request is judged. So what holds of every
 /// service of one key (`crate::laws`) holds of it. It does nothing when it runs: its contract is the law.
@@ -49,13 +51,28 @@ pub fn has_outcome()
         → AreEnoughForApReply words → IsBytes words → HasSome (remembering_by_keytab service moment admitted bytes words).gives }
 {}
 
-/// Over any list of calls, with any entries at each of them, no client is admitted twice with one authenticator time: each admission adds
-/// one pair of client and time, and no pair is there twice. It does nothing when it runs: its contract is the law.
-pub fn once_for_ever()
-    ensures { (service : KeytabServiceRecord) (greatest : ℕ) (admitted : List PairRecord) (calls : List KeytabCall)
-        (answers : List (Result AdmissionRecord AdmitRefusal)) (after : List PairRecord)
-        → AreOnce admitted → IsKeytabRun service greatest admitted calls answers after
-        → AreOnce after × (length after ≡ admissions_in answers + length admitted) }
+/// A call is one of a run, with whatever entries the service then has: it is by some entry, and by each that judges the bytes. So over any
+/// list of calls no client is admitted twice with one authenticator time (laws `run_goes_on`, `once_for_ever` of `crate::laws`). It does
+/// nothing when it runs: its contract is the law.
+pub fn calls_of_runs()
+    ensures some { (service : KeytabServiceRecord) (fields : ReplyFields) (moment : ℕ) (admitted : List PairRecord) (bytes words : List ℕ)
+        (answer : Result AdmissionRecord AdmitRefusal) (seen : SeenRecord)
+        → IsStep (remembering_by_keytab_with fields service moment admitted bytes words).gives admitted answer seen
+        → (entry : EntryRecord) × IsStep (remembering_by entry service.seen.skew fields moment admitted bytes words).gives admitted answer seen }
+    ensures each { (service : KeytabServiceRecord) (fields : ReplyFields) (moment : ℕ) (admitted : List PairRecord) (bytes words : List ℕ)
+        (answer : Result AdmissionRecord AdmitRefusal) (seen : SeenRecord) (entry : EntryRecord) → JudgesOf service.entries bytes entry
+        → IsStep (remembering_by_keytab_with fields service moment admitted bytes words).gives admitted answer seen
+        → IsStep (remembering_by entry service.seen.skew fields moment admitted bytes words).gives admitted answer seen }
+{}
+
+/// A service of one key answers as one of a keytab that has its entry alone, and the same bytes are presented to both. It does nothing when
+/// it runs: its contract is the law.
+pub fn sole_entry()
+    ensures answers { (service : ServiceRecord) (fields : ReplyFields) (moment : ℕ) (admitted : List PairRecord) (bytes words : List ℕ) (outcome : Outcome)
+        → (remembering_by_keytab_with fields (keytab_service_of service) moment admitted bytes words).gives outcome
+        ↔ (remembering_with fields service moment admitted bytes words).gives outcome }
+    ensures presents { (entry : EntryRecord) (choice : Choice) (bytes : List ℕ)
+        → IsPresentedTo (entry ∷ []) choice bytes ↔ Presents entry.key choice bytes }
 {}
 
 /// An entry that is added or taken away changes no answer to a request whose ticket an entry before it fits, nor to one whose ticket it

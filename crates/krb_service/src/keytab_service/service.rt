@@ -1,5 +1,5 @@
 //! Services of keytabs.
-ghost use Rattle.std.specs.Prelude.{◌≡◌, ◌⊎◌, List, Ok, Err, MatchResult, OnErr, OnOk, max};
+ghost use Rattle.std.specs.Prelude.{◌≡◌, ◌≤◌, ◌⊎◌, List, length, Ok, Err, MatchResult, OnErr, OnOk, max};
 ghost use Rattle.std.specs.List.{filter};
 ghost use Rattle.std.specs.Set.{distinct_count};
 ghost use Rattle.krb_messages.specs.RandomBytes.{AreEnoughForApReply};
@@ -8,13 +8,15 @@ ghost use Rattle.krb_service.specs.Pair.{PairRecord, is_recent, is_same_pair};
 ghost use Rattle.krb_service.specs.RememberingService.{IsStep};
 ghost use Rattle.krb_service.specs.Seen.{IsWindow};
 ghost use Rattle.krb_service.specs.KeytabEntries.{entries_of};
-ghost use Rattle.krb_service.specs.KeytabService.{IsKeytabService, giving, made, making, remembering_by_keytab};
+ghost use Rattle.krb_service.specs.KeytabService.{IsKeytabService, giving, made, making, remembering_by_keytab, remembering_by_keytab_with};
+ghost use Rattle.krb_service.specs.ApReply.{random_size};
+ghost use Rattle.krb_service.specs.declared.keytab_service.refusal.KeytabServiceRefusal.{KeytabServiceRefusal};
 ghost use Rattle.krb_service.specs.declared.keytab_service.refusal.KeytabServiceRefusal.TheVariants.{Memory};
 
 use crate::keytab_service::choosing::receive;
-use crate::keytab_service::entries::own_entries;
+use crate::keytab_service::entries::{has_entry, own_entries};
 use crate::keytab_service::refusal::KeytabServiceRefusal;
-use crate::{Admission, KeytabEntry, Seen, admit_once};
+use crate::{Admission, Admitter, KeytabEntry, ReplyFields, Seen, admit_once_with};
 use krb_ap_requests::AdmitRefusal;
 use krb_file_formats::Keytab;
 use krb_realm_accounts::{SKEW_LIMIT, are_components, components_of, is_realm_name, realm_name_of};
@@ -60,12 +62,18 @@ impl KeytabService {
             (λ service. (making realm.now (parts name.now) keytab.now skew ≡ Ok tt)
             × (service ≡ made realm.now (parts name.now) keytab.now skew))
             (λ refusal. (refusal ≡ Memory) ⊎ (making realm.now (parts name.now) keytab.now skew ≡ Err refusal)) }
+
+        // Running out of memory hides no other refusal.
+        ensures first { (refusal : KeytabServiceRefusal) → making realm.now (parts name.now) keytab.now skew ≡ Err refusal → result ≡ Err refusal }
     {
         if !is_realm_name(realm) || !are_components(name) {
             return Err(KeytabServiceRefusal::BadName);
         }
         if SKEW_LIMIT < skew {
             return Err(KeytabServiceRefusal::BadSetting);
+        }
+        if !has_entry(realm, name, keytab) {
+            return Err(KeytabServiceRefusal::NoKey);
         }
         let Ok(realm) = realm_name_of(alloc, realm) else {
             return Err(KeytabServiceRefusal::Memory);
@@ -96,6 +104,9 @@ impl KeytabService {
         ensures refused { MatchResult result
             (λ _. giving (entries_of self.old.realm self.old.components keytab.now) ≡ Ok tt)
             (λ refusal. (refusal ≡ Memory) ⊎ (giving (entries_of self.old.realm self.old.components keytab.now) ≡ Err refusal)) }
+
+        // Running out of memory hides no other refusal.
+        ensures first { (refusal : KeytabServiceRefusal) → giving (entries_of self.old.realm self.old.components keytab.now) ≡ Err refusal → result ≡ Err refusal }
     {
         let entries = own_entries(alloc, &self.realm, &self.components, keytab)?;
         self.entries = entries;
@@ -136,11 +147,31 @@ impl KeytabService {
         ensures remembers { (admitted : List PairRecord) → IsWindow self.old.seen admitted
             → IsStep (remembering_by_keytab self.old (max self.old.seen.greatest moment) admitted message.now words.now).gives admitted result self.new.seen }
     {
+        self.admit_with(alloc, message, moment, ReplyFields::TimeAlone, words)
+    }
+
+    /// Admits an AP request as [`KeytabService::admit`] does, with these fields in the AP-REP. `words`: random bytes, of which the first 16
+    /// count; with a subkey and a number 64: 16 to 19 are the number's, and 32 to 63 the subkey's seed.
+    pub fn admit_with(
+        &mut self,
+        alloc: Global,
+        message: &[u8],
+        moment: Moment,
+        fields: ReplyFields,
+        words: &[u8],
+    ) -> Result<Admission, AdmitRefusal>
+        requires { random_size fields ≤ length words.now }
+        ensures greatest { self.new.seen.greatest ≡ max self.old.seen.greatest moment }
+        ensures skew { self.new.seen.skew ≡ self.old.seen.skew }
+        ensures rest { self.new ≡ record self.old { seen = self.new.seen } }
+        ensures remembers { (admitted : List PairRecord) → IsWindow self.old.seen admitted
+            → IsStep (remembering_by_keytab_with fields self.old (max self.old.seen.greatest moment) admitted message.now words.now).gives admitted result self.new.seen }
+    {
         self.seen.raise(moment);
         let now = self.seen.greatest();
         let skew = self.seen.skew();
         let presented = receive(alloc, self.entries.as_slice(), skew, now, message)?;
-        admit_once(&mut self.seen, alloc, now, presented, words)
+        admit_once_with(&mut self.seen, alloc, now, presented, fields, words)
     }
 
     /// How many pairs of a client and a time the replay cache holds, under whatever entry they were admitted: of those that were admitted the
@@ -150,5 +181,24 @@ impl KeytabService {
             result ≡ distinct_count is_same_pair (filter (is_recent self.now.seen.skew self.now.seen.greatest) admitted) }
     {
         self.seen.kept()
+    }
+}
+
+impl Admitter for KeytabService {
+    ghost as_keytab = { λ service. service };
+
+    fn clock_skew(&self) -> u64 {
+        self.seen.skew()
+    }
+
+    fn admit_request(
+        &mut self,
+        alloc: Global,
+        message: &[u8],
+        moment: Moment,
+        fields: ReplyFields,
+        words: &[u8],
+    ) -> Result<Admission, AdmitRefusal> {
+        self.admit_with(alloc, message, moment, fields, words)
     }
 }
