@@ -2,12 +2,13 @@
 use Rattle.std.proofs.Common.{◌≡◌, ℕ, List, Option, None, Some, Result, Ok, Err, refl, sym, ap, subst, inl, inr}
 use Rattle.decision_tables.specs.Tables.{Table, need}
 use Rattle.krb_service.specs.Admission.{AdmissionRecord}
-use Rattle.krb_service.specs.Service.{ServiceRecord}
+use Rattle.krb_service.specs.Admits.{Admits}
+use Rattle.krb_service.specs.KeytabService.{KeytabServiceRecord}
 use Rattle.krb_service.specs.declared.reply.ReplyFields.{ReplyFields}
 use Rattle.krb_ap_requests.specs.declared.refusal.AdmitRefusal.{AdmitRefusal}
 use Rattle.gss_acceptor.specs.Contexts.{fields_of}
 use Rattle.gss_acceptor.specs.Established.{EstablishedRecord}
-use Rattle.gss_acceptor.specs.Accepting.{AcceptorRecord, AdmitRequest, Admits, AskFor, Establishes, Handles, IsEstablished, Step, Takes, VerifyMic, carried, held, negotiated, next, opened, opened_by, responded_to, resumed, to_verify}
+use Rattle.gss_acceptor.specs.Accepting.{AcceptorRecord, AdmitRequest, AskFor, Establishes, Handles, IsEstablished, Step, Takes, VerifyMic, carried, held, negotiated, next, opened, opened_by, responded_to, resumed, to_verify}
 use Rattle.gss_acceptor.specs.Concluding.{IsGiven, IsLast, asking}
 use Rattle.gss_acceptor.specs.Negotiation.{IsRead, offered}
 use Rattle.gss_acceptor.specs.Responses.{responded}
@@ -129,7 +130,7 @@ by_last acceptor moment random unverified tokens result (inl (theirs, is, x)) = 
 by_last acceptor moment random unverified tokens result (inr (refusal, is, x)) = inr (refusal, x, refl, inr (ap (to_verify unverified) (sym is)))
 
 -- by the service's admission or refusal, as the acceptor is seen inside
-pub by_admission : (inside acceptor : AcceptorRecord) (after : ServiceRecord) (fields : ReplyFields) (skew moment : ℕ) (message random : List ℕ) (admission : AdmissionRecord) (result : Result EstablishedRecord AcceptRefusal)
+pub by_admission : (inside acceptor : AcceptorRecord) (after : KeytabServiceRecord) (fields : ReplyFields) (skew moment : ℕ) (message random : List ℕ) (admission : AdmissionRecord) (result : Result EstablishedRecord AcceptRefusal)
     → inside ≡ acceptor → fields ≡ fields_of inside.terms → skew ≡ inside.service.seen.skew → Admits fields inside.service moment message random (Ok admission) after
     → IsEstablished inside.terms skew random admission result → Establishes acceptor moment message random result (record { service = after; terms = inside.terms })
 by_admission inside acceptor after fields skew moment message random admission result same own_fields own_skew admits x =
@@ -142,7 +143,7 @@ by_admission inside acceptor after fields skew moment message random admission r
       ),
     )
 
-pub by_cause : (inside acceptor : AcceptorRecord) (after : ServiceRecord) (fields : ReplyFields) (moment : ℕ) (message random : List ℕ) (cause : AdmitRefusal)
+pub by_cause : (inside acceptor : AcceptorRecord) (after : KeytabServiceRecord) (fields : ReplyFields) (moment : ℕ) (message random : List ℕ) (cause : AdmitRefusal)
     → inside ≡ acceptor → fields ≡ fields_of inside.terms → Admits fields inside.service moment message random (Err cause) after
     → Establishes acceptor moment message random (Err (Admit cause)) (record { service = after; terms = inside.terms })
 by_cause inside acceptor after fields moment message random cause same own_fields admits =

@@ -6,3 +6,4 @@ mod Concluded
 mod Handling
 mod Presented
 mod Verified
+mod AcceptorRunning

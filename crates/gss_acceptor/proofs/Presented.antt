@@ -2,18 +2,20 @@
 use Rattle.std.proofs.Common.{◌≡◌, ℕ, Bool, true, false, List, Result, Ok, Err, refl, sym, ap, subst, ◌∙◌, inl, inr, if◌then◌else◌, arith}
 use Rattle.std.specs.Prelude.{◌≤◌, ◌+◌, max, is_some, Option, None, Some, MatchBool, MatchOption}
 use Rattle.krb_service.specs.Admission.{AdmissionRecord, TellsOf}
-use Rattle.krb_ap_requests.specs.Presents.{Choice, Presents}
+use Rattle.krb_service.specs.Admits.{Admits}
+use Rattle.krb_service.specs.ChosenEntry.{IsPresentedTo}
+use Rattle.krb_ap_requests.specs.Presents.{Choice}
 use Rattle.krb_crypto.specs.Keys.{KeyRecord}
 use Rattle.krb_service.specs.Pair.{PairRecord}
 use Rattle.krb_service.specs.Seen.{IsWindow}
 use Rattle.krb_service.specs.RememberingService.{IsStep}
-use Rattle.krb_service.proofs.Admitting.{presented_with}
+use Rattle.krb_service.proofs.KeytabLaws.{presented_to}
 use Rattle.gss_contexts.specs.Contexts.{ContextRecord, context_of, is_newer}
 use Rattle.gss_contexts.specs.Judging.{TakesMic}
 use Rattle.gss_contexts.specs.declared.side.Side.TheVariants.{Acceptor}
 use Rattle.gss_contexts.specs.declared.terms.ContextTerms.{ContextTerms}
 use Rattle.gss_acceptor.proofs.Results.{given, same_ok}
-use Rattle.gss_acceptor.specs.Accepting.{AcceptorRecord, AdmitRequest, Admits, AskFor, Handles, IsAnsweredAs, Takes, VerifyMic, carried, context_under, established_of, held, judged, negotiated, opened_by, then_judged}
+use Rattle.gss_acceptor.specs.Accepting.{AcceptorRecord, AdmitRequest, AskFor, Handles, IsAnsweredAs, Takes, VerifyMic, carried, context_under, established_of, held, judged, negotiated, opened_by, then_judged}
 use Rattle.gss_acceptor.specs.Checksum.{bound_by, initial_in, no_bindings}
 use Rattle.gss_acceptor.specs.Chosen.{IsChosen, IsChosenAfter, IsKeyOf}
 use Rattle.gss_acceptor.specs.Concluding.{Demands, ExchangesMics, IsConcludedWithout, IsGiven, IsMicAnswered, IsVerified, awaiting, completed}
@@ -193,15 +195,15 @@ after_answer choice exchange (Err refusal) accepted is never = absurd (cc (never
 
 -- what a step admits was presented
 presented : (acceptor after : AcceptorRecord) (moment : ℕ) (admitted : List PairRecord) (message random : List ℕ) (admission : AdmissionRecord) → IsWindow acceptor.service.seen admitted
-    → Admits (fields_of acceptor.terms) acceptor.service moment message random (Ok admission) after.service → (choice : Choice) × Presents acceptor.service.entry.key choice message × TellsOf choice admission
+    → Admits (fields_of acceptor.terms) acceptor.service moment message random (Ok admission) after.service → (choice : Choice) × IsPresentedTo acceptor.service.entries choice message × TellsOf choice admission
 unfolding IsStep
 presented acceptor after moment admitted message random admission window admits =
     let step = admits.remembers admitted window in
-    presented_with (fields_of acceptor.terms) acceptor.service (max acceptor.service.seen.greatest moment) admitted message random admission step.0 step.1
+    presented_to acceptor.service (fields_of acceptor.terms) (max acceptor.service.seen.greatest moment) admitted message random admission step.0 step.1
 
 pub admitted : (acceptor after : AcceptorRecord) (moment : ℕ) (message random : List ℕ) (exchange : Option Exchange) (admitted : List PairRecord) (accepted : Accepted)
     → IsWindow acceptor.service.seen admitted → Takes (AdmitRequest message exchange) acceptor moment random (Ok accepted) after
-    → (choice : Choice) × Presents acceptor.service.entry.key choice message × IsChosenAfter choice accepted
+    → (choice : Choice) × IsPresentedTo acceptor.service.entries choice message × IsChosenAfter choice accepted
 admitted acceptor after moment message random exchange before accepted window (Ok established, (same_terms, inl (admission, admits, (made, so, whole))), answers) =
     let found = presented acceptor after moment before message random admission window admits in
     let is : IsChosen found.0 established = chosen found.0 random admission made established found.2
@@ -238,7 +240,7 @@ none_carried token theirs unverified (inr (none_is, inr (refusal, is, never))) =
 pub first : (acceptor after : AcceptorRecord) (moment : ℕ) (token random : List ℕ) (before : List PairRecord) (established : EstablishedRecord)
     → IsWindow acceptor.service.seen before → Handles (carried token) acceptor moment random (Ok (Established established)) after
     → (message : List ℕ) × (exchange : Option Exchange) × (carried token).gives (Ok (AdmitRequest message exchange))
-    × (choice : Choice) × Presents acceptor.service.entry.key choice message × IsChosen choice established
+    × (choice : Choice) × IsPresentedTo acceptor.service.entries choice message × IsChosen choice established
 first acceptor after moment token random before established window (inl (AskFor mechanism terms, is, (same, x))) = absurd (let never = given (Established established) _ x in cc (never))
 first acceptor after moment token random before established window (inl (AdmitRequest message exchange, is, x)) =
     let found = admitted acceptor after moment message random exchange before (Established established) window x in

@@ -1,17 +1,14 @@
 -- What an acceptor does with an initiator's tokens.
-use Rattle.std.specs.Prelude.{◌≡◌, ◌⊎◌, List, is_some, Option, None, Some, Result, Ok, Err, max}
+use Rattle.std.specs.Prelude.{◌≡◌, ◌⊎◌, List, is_some, Option, None, Some, Result, Ok, Err}
 use Rattle.picky_asn1.specs.Bytes.{Bytes}
 use Rattle.krb_time.specs.Units.{Micros}
 use Rattle.krb_messages.specs.RandomBytes.{Random}
-use Rattle.krb_service.specs.Pair.{PairRecord}
-use Rattle.krb_service.specs.Seen.{IsWindow}
 use Rattle.krb_service.specs.Admission.{AdmissionRecord}
 use Rattle.krb_ap_requests.specs.declared.refusal.AdmitRefusal.{AdmitRefusal}
-use Rattle.krb_service.specs.Service.{ServiceRecord}
-use Rattle.krb_service.specs.declared.reply.ReplyFields.{ReplyFields}
+use Rattle.krb_service.specs.Admits.{Admits}
+use Rattle.krb_service.specs.KeytabService.{KeytabServiceRecord}
 use Rattle.gss_contexts.specs.Contexts.{ContextRecord}
 use Rattle.gss_contexts.specs.declared.terms.ContextTerms.{ContextTerms}
-use Rattle.krb_service.specs.RememberingService.{IsStep, remembering_with}
 use Rattle.decision_tables.specs.Tables.{Table, and_then, ask, done, need}
 use Rattle.gss_acceptor.specs.Answers.{ap_rep_in}
 use Rattle.gss_acceptor.specs.Checksum.{bound_by, initial_in}
@@ -36,9 +33,9 @@ use Rattle.gss_acceptor.specs.declared.refusal.AcceptRefusal.{AcceptRefusal}
 use Rattle.gss_acceptor.specs.declared.refusal.AcceptRefusal.TheVariants.{NotAToken, Admit, Memory}
 use Rattle.gss_acceptor.specs.declared.terms.AcceptorTerms.{AcceptorTerms}
 
--- an acceptor: its service, and its terms
+-- an acceptor: its service, seen as one of a keytab, and its terms
 pub record AcceptorRecord : Type 0 where
-  pub service : ServiceRecord
+  pub service : KeytabServiceRecord
   pub terms : AcceptorTerms
 
 -- what a token asks of an acceptor: to ask for Kerberos' first token; to admit an AP-REQ, which came bare or in a message of SPNEGO;
@@ -99,14 +96,6 @@ next (Mic unverified) tokens = done (to_verify unverified (due_mic tokens))
 -- the step after a later token
 unfoldable pub resumed : Negotiation → Bytes → Table (Result Step AcceptRefusal)
 resumed negotiation token = and_then (responded token) (next negotiation.stage)
-
--- what `Service::admit_with` ensures
-pub record Admits (fields : ReplyFields) (service : ServiceRecord) (moment : Micros) (message : Bytes) (random : Random) (answer : Result AdmissionRecord AdmitRefusal) (after : ServiceRecord) : Type 0 where
-  pub greatest : after.seen.greatest ≡ max service.seen.greatest moment
-  pub skew : after.seen.skew ≡ service.seen.skew
-  pub rest : after ≡ record service { seen = after.seen }
-  pub remembers : (admitted : List PairRecord) → IsWindow service.seen admitted
-      → IsStep (remembering_with fields service (max service.seen.greatest moment) admitted message random).gives admitted answer after.seen
 
 -- what follows a value, or its refusal
 abbrev pub then_judged : {A B : Type 0} → Result A AcceptRefusal → (A → Result B AcceptRefusal) → Result B AcceptRefusal

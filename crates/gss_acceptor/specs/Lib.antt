@@ -11,3 +11,4 @@ pub mod Concluding
 pub mod Accepting
 pub mod Chosen
 pub mod Due
+pub mod AcceptorRuns

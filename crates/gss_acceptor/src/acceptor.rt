@@ -12,30 +12,61 @@ use crate::refusal::AcceptRefusal;
 use crate::response::read_response;
 use crate::terms::AcceptorTerms;
 use crate::token::ap_req_in;
-use krb_service::Service;
+use krb_file_formats::Keytab;
+use krb_service::{Admitter, KeytabService, KeytabServiceRefusal};
 use krb_time::Moment;
 use std::alloc::Global;
 use std::marker::Model;
 
-/// The acceptor of a service: it establishes contexts of its clients.
+/// The acceptor of a service, which has one key (`Service`) or a keytab's keys (`KeytabService`): it establishes contexts of its clients. A
+/// contract sees the service as one of a keytab.
 #[derive(Drop)]
-pub struct Acceptor {
-    service: Service,
+pub struct Acceptor<S: Admitter + Drop> {
+    service: S,
     terms: AcceptorTerms,
 }
 
-impl Model for Acceptor {
+impl<S: Admitter + Drop> Model for Acceptor<S> {
     ghost use Rattle.gss_acceptor.specs.Accepting.{AcceptorRecord};
 
     ghost Value = { AcceptorRecord };
 
-    ghost view = { λ a. record { service = a.service; terms = a.terms } };
+    ghost view = { λ a. record { service = S.as_keytab a.service; terms = a.terms } };
 }
 
-impl Acceptor {
+impl Acceptor<KeytabService> {
+    ghost use Rattle.std.specs.Prelude.{◌⊎◌, Ok, Err, MatchResult, OnErr, OnOk};
+    ghost use Rattle.krb_service.specs.KeytabEntries.{entries_of};
+    ghost use Rattle.krb_service.specs.KeytabService.{giving};
+    ghost use Rattle.krb_service.specs.declared.keytab_service.refusal.KeytabServiceRefusal.{KeytabServiceRefusal};
+    ghost use Rattle.krb_service.specs.declared.keytab_service.refusal.KeytabServiceRefusal.TheVariants.{Memory};
+
+    /// Takes the service's keys in another keytab in place of those that it has, as [`KeytabService::replace_keys`] does. The replay cache
+    /// stays, and so do the contexts and negotiations.
+    ///
+    /// A keytab without a key of the service is refused (`NoKey`). What is refused changes nothing.
+    pub fn replace_keys(
+        &mut self,
+        alloc: Global,
+        keytab: &Keytab,
+    ) -> Result<(), KeytabServiceRefusal>
+        ensures replaced { OnOk result (self.new ≡ record self.old { service = record self.old.service { entries = entries_of self.old.service.realm self.old.service.components keytab.now } }) }
+        ensures kept { OnErr result (self.new ≡ self.old) }
+        ensures refused { MatchResult result
+            (λ _. giving (entries_of self.old.service.realm self.old.service.components keytab.now) ≡ Ok tt)
+            (λ refusal. (refusal ≡ Memory) ⊎ (giving (entries_of self.old.service.realm self.old.service.components keytab.now) ≡ Err refusal)) }
+
+        // Running out of memory hides no other refusal.
+        ensures first { (refusal : KeytabServiceRefusal) → giving (entries_of self.old.service.realm self.old.service.components keytab.now) ≡ Err refusal → result ≡ Err refusal }
+    {
+        self.service.replace_keys(alloc, keytab)
+    }
+}
+
+impl<S: Admitter + Drop> Acceptor<S> {
     /// The acceptor of a service, on these terms.
-    pub fn new(service: Service, terms: AcceptorTerms) -> Acceptor
-        ensures { result ≡ record { service = service; terms = terms } }
+    pub fn new(service: S, terms: AcceptorTerms) -> Acceptor<S>
+        ensures { result ≡ record { service = S.as_keytab service; terms = terms } }
     {
         Acceptor { service, terms }
     }
@@ -252,11 +283,11 @@ impl Acceptor {
         requires { 64 ≤ length words.now }
         ensures { Establishes self.old moment request.now words.now result self.new }
     {
-        let skew = self.service.seen().skew();
+        let skew = self.service.clock_skew();
         let fields = self.terms.fields();
         match self
             .service
-            .admit_with(alloc, request, moment, fields, words)
+            .admit_request(alloc, request, moment, fields, words)
         {
             Ok(admission) => established_by(alloc, &self.terms, skew, words, admission),
             Err(cause) => Err(AcceptRefusal::Admit(cause)),

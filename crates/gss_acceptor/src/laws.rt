@@ -1,9 +1,15 @@
 //! The laws of established contexts.
-ghost use Rattle.std.specs.Prelude.{◌≡◌, ℕ, List, Option, Ok, true};
-ghost use Rattle.krb_ap_requests.specs.Presents.{Choice, Presents};
+ghost use Rattle.std.specs.Prelude.{◌≡◌, ◌≤◌, ◌+◌, ℕ, List, length, Option, Result, Ok, true};
+ghost use Rattle.krb_ap_requests.specs.Presents.{Choice};
+ghost use Rattle.krb_ap_requests.specs.declared.refusal.AdmitRefusal.{AdmitRefusal};
+ghost use Rattle.krb_service.specs.Admission.{AdmissionRecord};
+ghost use Rattle.krb_service.specs.ChosenEntry.{IsPresentedTo};
+ghost use Rattle.krb_service.specs.OnceForEver.{AreOnce, admissions_in};
 ghost use Rattle.krb_service.specs.Pair.{PairRecord};
+ghost use Rattle.krb_service.specs.Runs.{AdmissionCall, IsRun};
 ghost use Rattle.krb_service.specs.Seen.{IsWindow};
 ghost use Rattle.gss_acceptor.specs.Accepting.{AcceptorRecord, AdmitRequest, Handles, Takes, VerifyMic, carried, resumed};
+ghost use Rattle.gss_acceptor.specs.AcceptorRuns.{AreTaken, TakenStep, contexts_in};
 ghost use Rattle.gss_acceptor.specs.Chosen.{IsChosen, IsChosenAfter};
 ghost use Rattle.gss_acceptor.specs.Due.{IsDue, IsDueAfter};
 ghost use Rattle.gss_acceptor.specs.Established.{EstablishedRecord};
@@ -16,19 +22,18 @@ ghost use Rattle.gss_acceptor.specs.declared.exchange.Exchange.{Exchange};
 ghost use Rattle.gss_acceptor.specs.declared.exchange.Unverified.{Unverified};
 ghost use Rattle.gss_acceptor.specs.declared.negotiation.Offer.{Offer};
 
-/// The token of an established context holds an AP-REQ that a client presented, sealed under the service's key and the
-/// session key. The context has what the client chose: its name, its ticket's times and flags, the flags and bindings, and
-/// the sequence number. Its key is the client's, or the acceptor's subkey of the session key's suite. So has a context that
-/// waits for its initiator's MIC, and what is handed out when the MIC was verified. It does nothing when it runs: its
-/// contract is the law.
+/// The token of an established context holds an AP-REQ that a client presented, sealed under the session key and the key of the service's
+/// entry that judges it. The context has what the client chose: its name, its ticket's times and flags, the flags and bindings, and the
+/// sequence number. Its key is the client's, or the acceptor's subkey of the session key's suite. So has a context that waits for its
+/// initiator's MIC, and what is handed out when the MIC was verified. It does nothing when it runs: its contract is the law.
 pub fn established_as_presented()
     ensures first { (acceptor after : AcceptorRecord) (moment : ℕ) (token random : List ℕ) (admitted : List PairRecord) (established : EstablishedRecord)
         → IsWindow acceptor.service.seen admitted → Handles (carried token) acceptor moment random (Ok (Established established)) after
         → (message : List ℕ) × (exchange : Option Exchange) × (carried token).gives (Ok (AdmitRequest message exchange))
-        × (choice : Choice) × Presents acceptor.service.entry.key choice message × IsChosen choice established }
+        × (choice : Choice) × IsPresentedTo acceptor.service.entries choice message × IsChosen choice established }
     ensures admitted { (acceptor after : AcceptorRecord) (moment : ℕ) (message random : List ℕ) (exchange : Option Exchange) (admitted : List PairRecord) (accepted : Accepted)
         → IsWindow acceptor.service.seen admitted → Takes (AdmitRequest message exchange) acceptor moment random (Ok accepted) after
-        → (choice : Choice) × Presents acceptor.service.entry.key choice message × IsChosenAfter choice accepted }
+        → (choice : Choice) × IsPresentedTo acceptor.service.entries choice message × IsChosenAfter choice accepted }
     ensures verified { (acceptor after : AcceptorRecord) (moment : ℕ) (theirs random : List ℕ) (unverified : Unverified) (choice : Choice) (accepted : Accepted)
         → IsChosen choice unverified.established → Takes (VerifyMic unverified theirs) acceptor moment random (Ok accepted) after
         → IsChosenAfter choice accepted }
@@ -44,4 +49,18 @@ pub fn established_under_mic()
     ensures later { (acceptor after : AcceptorRecord) (moment : ℕ) (token list random : List ℕ) (negotiation : Negotiation) (accepted : Accepted)
         → IsDue list negotiation.stage → Handles (resumed negotiation token) acceptor moment random (Ok accepted) after
         → IsDueAfter list accepted }
+{}
+
+/// The admissions of an acceptor's steps are a run of its service, with any entries at each step. So over any list of steps no client begins
+/// two contexts with one authenticator time, also where keys were replaced between them. It does nothing when it runs: its contract is the
+/// law.
+pub fn once_for_ever()
+    ensures run { (acceptor after : AcceptorRecord) (steps : List TakenStep) (admitted : List PairRecord)
+        → IsWindow acceptor.service.seen admitted → AreTaken acceptor steps after
+        → (calls : List AdmissionCall) × (answers : List (Result AdmissionRecord AdmitRefusal)) × (all : List PairRecord)
+        × IsRun acceptor.service.seen.skew acceptor.service.seen.greatest admitted calls answers all
+        × IsWindow after.service.seen all × (contexts_in steps ≤ admissions_in answers) }
+    ensures once { (acceptor after : AcceptorRecord) (steps : List TakenStep) (admitted : List PairRecord)
+        → IsWindow acceptor.service.seen admitted → AreOnce admitted → AreTaken acceptor steps after
+        → (all : List PairRecord) × IsWindow after.service.seen all × AreOnce all × (contexts_in steps + length admitted ≤ length all) }
 {}

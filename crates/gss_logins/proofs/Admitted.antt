@@ -15,6 +15,8 @@ use Rattle.krb_service.specs.ApReply.{IsReplyWith}
 use Rattle.krb_service.specs.Admissible.{IsAdmissible}
 use Rattle.krb_service.specs.RememberingService.{IsStep, Outcome, remembering_with}
 use Rattle.krb_service.specs.Service.{ServiceRecord}
+use Rattle.krb_service.specs.KeytabService.{keytab_service_of, remembering_by_keytab_with}
+use Rattle.krb_service.proofs.KeytabLaws.{step_from_sole}
 use Rattle.krb_service.specs.declared.reply.ReplyFields.{ReplyFields}
 use Rattle.krb_logins.proofs.Outcomes.{admits_with}
 
@@ -30,10 +32,14 @@ module _ (fields : ReplyFields) (service : ServiceRecord) (moment : Micros) (adm
   own : (outcome : Outcome) → (remembering_with fields service moment admitted bytes words).gives outcome → IsOwn outcome.0
   own outcome given = let made = admits_with fields service moment admitted bytes words choice x y outcome given in (made.0, made.1, ap (λ (o : Outcome). o.0) made.2)
 
-  pub own_step : (answer : Result AdmissionRecord AdmitRefusal) (seen : SeenRecord) → IsStep (remembering_with fields service moment admitted bytes words).gives admitted answer seen
+  own_answer : (answer : Result AdmissionRecord AdmitRefusal) (seen : SeenRecord) → IsStep (remembering_with fields service moment admitted bytes words).gives admitted answer seen
       → IsOwn answer ⊎ (answer ≡ Err Memory)
   unfolding IsStep
-  own_step (Ok admission) seen (after, given, window) = inl (own (Ok admission, after) given)
-  own_step (Err Unreadable) seen (after, given, window) = inl (own (Err Unreadable, after) given)
-  own_step (Err (Krb code)) seen (after, given, window) = inl (own (Err (Krb code), after) given)
-  own_step (Err Memory) seen window = inr refl
+  own_answer (Ok admission) seen (after, given, window) = inl (own (Ok admission, after) given)
+  own_answer (Err Unreadable) seen (after, given, window) = inl (own (Err Unreadable, after) given)
+  own_answer (Err (Krb code)) seen (after, given, window) = inl (own (Err (Krb code), after) given)
+  own_answer (Err Memory) seen window = inr refl
+
+  pub own_step : (answer : Result AdmissionRecord AdmitRefusal) (seen : SeenRecord)
+      → IsStep (remembering_by_keytab_with fields (keytab_service_of service) moment admitted bytes words).gives admitted answer seen → IsOwn answer ⊎ (answer ≡ Err Memory)
+  own_step answer seen x = own_answer answer seen (step_from_sole service fields moment admitted bytes words answer seen x)

@@ -8,6 +8,7 @@ use Rattle.krb_messages.specs.declared.data_types.authenticator.AuthenticatorInn
 use Rattle.krb_messages.specs.declared.data_types.enc_ticket_part.EncTicketPartInner.{EncTicketPartInner}
 use Rattle.krb_ap_requests.specs.Presents.{Choice}
 use Rattle.krb_client.specs.Client.{ClientRecord, CredentialRecord}
+use Rattle.krb_service.specs.KeytabService.{keytab_service_of}
 use Rattle.krb_service.specs.Pair.{PairRecord}
 use Rattle.krb_service.specs.Service.{ServiceRecord}
 use Rattle.krb_logins.specs.Choices.{choice_by}
@@ -32,7 +33,7 @@ pub record GssLogin : Type 0 where
 
 -- the acceptor of the service
 abbrev pub acceptor_of : GssLogin → AcceptorRecord
-acceptor_of login = record { service = login.service; terms = login.terms }
+acceptor_of login = record { service = keytab_service_of login.service; terms = login.terms }
 
 -- the clock that the service judges by
 abbrev pub clock_of : GssLogin → Micros

@@ -10,6 +10,7 @@ use call::{Call, call_of};
 use gss_acceptor::{Acceptor, Negotiation};
 use gss_contexts::{Context, Protection};
 use gss_initiator::Pending;
+use krb_service::Service;
 use std::alloc::Global;
 use std::fmt::Debug;
 use test_support::rows::replay;
@@ -26,7 +27,7 @@ const FILES: [&str; 4] = [
 /// What a line's call is one of.
 #[derive(Drop)]
 pub(crate) struct Ends {
-    pub(crate) acceptor: Option<Acceptor>,
+    pub(crate) acceptor: Option<Acceptor<Service>>,
     pub(crate) negotiation: Option<Negotiation>,
     pub(crate) pending: Option<Pending>,
     pub(crate) context: Option<Context>,

@@ -15,7 +15,7 @@ use test_support::Told;
 /// Begins an acceptor, which has seen nothing, in place of the last one.
 pub(crate) fn begins(
     alloc: Global,
-    acceptor: &mut Option<Acceptor>,
+    acceptor: &mut Option<Acceptor<Service>>,
     row: &Call<'_>,
 ) -> anyhow::Result<bool> {
     let mut words = row.words;
