@@ -8,6 +8,7 @@ use base64::engine::general_purpose::STANDARD;
 use decision_tables::if_passed;
 use gss_initiator::{Initiated, Pending, Progress, Taken};
 use krb_commands::{RandomFile, Stop, print_line, read_input, refused};
+use picky_asn1_der::both;
 
 /// How many octets the server's answer may have in base64.
 const ANSWER_LIMIT: u64 = 65_536;
@@ -27,11 +28,7 @@ pub(crate) fn negotiate(
             drop(context);
             Ok(())
         }
-        Progress::ContinueNeeded(pending) => {
-            let concluded = conclude(rt, asked, &pending);
-            drop(pending);
-            concluded
-        }
+        Progress::ContinueNeeded(pending) => conclude(rt, asked, pending),
     };
     if concluded.is_ok() {
         say_established(rt, asked);
@@ -45,8 +42,8 @@ fn print_token(rt: &HostRuntime, token: &[u8]) -> Result<(), Stop> {
     print_line(rt, format_args!("Authorization: Negotiate {text}"))
 }
 
-fn conclude(rt: &HostRuntime, asked: &Asked<'_>, pending: &Pending) -> Result<(), Stop> {
-    let answer = answer_of(rt)?;
+fn conclude(rt: &HostRuntime, asked: &Asked<'_>, pending: Pending) -> Result<(), Stop> {
+    let (pending, answer) = both(Ok(pending), answer_of(rt))?;
     let Taken { context, reply } = take_answer(rt.alloc(), asked, pending, &answer)?;
     drop(context);
     let printed = match &reply {

@@ -8,6 +8,7 @@ use decision_tables::if_passed;
 use gss_contexts::{Context, Protection};
 use gss_initiator::{Initiated, Pending, Progress, Taken};
 use krb_commands::{RandomFile, Stop};
+use picky_asn1_der::both;
 
 /// Establishes a context with the service, sends it the messages, and ends the context.
 pub(crate) fn talk(
@@ -36,11 +37,7 @@ fn establish(
     drop(token);
     match if_passed(progress, sent)? {
         Progress::Established(context) => Ok(context),
-        Progress::ContinueNeeded(pending) => {
-            let context = conclude(rt, asked, peer, &pending);
-            drop(pending);
-            context
-        }
+        Progress::ContinueNeeded(pending) => conclude(rt, asked, peer, pending),
     }
 }
 
@@ -55,9 +52,10 @@ fn conclude(
     rt: &HostRuntime,
     asked: &Asked<'_>,
     peer: &mut Peer<'_>,
-    pending: &Pending,
+    pending: Pending,
 ) -> Result<Context, Stop> {
-    let answer = peer.receive(CONTEXT, "the service's token")?;
+    let received = peer.receive(CONTEXT, "the service's token");
+    let (pending, answer) = both(Ok(pending), received)?;
     let Taken { context, reply } = take_answer(rt.alloc(), asked, pending, &answer)?;
     let sent = match &reply {
         Some(reply) => peer.send(CONTEXT, reply),

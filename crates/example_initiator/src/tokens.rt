@@ -5,7 +5,7 @@ use crate::party::Party;
 use gss_acceptor::context_flags::{CONFIDENTIALITY, INTEGRITY, MUTUAL, REPLAY, SEQUENCE};
 use gss_acceptor::{ContextFlags, InitialChecksum};
 use gss_contexts::{Context, TokenRefusal};
-use gss_initiator::{InitiateRefusal, Initiated, Pending, Taken, initiate};
+use gss_initiator::{InitiateRefusal, Initiated, Pending, RefusedAnswer, Taken, initiate};
 use krb_commands::{RandomFile, Stop, moment_or_now, refused};
 use std::alloc::Global;
 
@@ -51,12 +51,16 @@ fn initial_of(choice: &Choice) -> InitialChecksum {
 pub(crate) fn take_answer(
     alloc: Global,
     asked: &Asked<'_>,
-    pending: &Pending,
+    pending: Pending,
     answer: &[u8],
 ) -> Result<Taken, Stop> {
     match pending.take(alloc, answer) {
         Ok(taken) => Ok(taken),
-        Err(refusal) => Err(stop_of_login(alloc, asked.service.argument, refusal)),
+        Err(refused) => {
+            let RefusedAnswer { refusal, pending } = refused;
+            drop(pending);
+            Err(stop_of_login(alloc, asked.service.argument, refusal))
+        }
     }
 }
 

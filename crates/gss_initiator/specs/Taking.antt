@@ -17,6 +17,7 @@ use Rattle.gss_initiator.specs.declared.initiated.TokenForm.{TokenForm}
 use Rattle.gss_initiator.specs.declared.initiated.TokenForm.TheVariants.{Bare, Negotiated}
 use Rattle.gss_initiator.specs.declared.refusal.InitiateRefusal.{InitiateRefusal}
 use Rattle.gss_initiator.specs.declared.refusal.InitiateRefusal.TheVariants.{Memory, Mic, NoMic}
+use Rattle.gss_initiator.specs.declared.take.RefusedAnswer.{RefusedAnswer}
 
 -- the context that is established, and the last token to send if one is due
 pub record TakenRecord : Type 0 where
@@ -68,3 +69,8 @@ abbrev pub Takes : Pending → Bytes → Result TakenRecord InitiateRefusal → 
 Takes pending token result =
     ((it : Heard) × (heard pending token).gives (Ok it) × IsConcluded it result)
     ⊎ ((refusal : InitiateRefusal) × (result ≡ Err refusal) × ((refusal ≡ Memory) ⊎ (heard pending token).gives (Err refusal)))
+
+-- what an answer establishes, or why it isn't taken
+abbrev pub outcome_of : Result TakenRecord RefusedAnswer → Result TakenRecord InitiateRefusal
+outcome_of (Ok taken) = Ok taken
+outcome_of (Err refused) = Err refused.refusal

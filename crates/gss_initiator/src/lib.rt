@@ -3,7 +3,8 @@
 //!
 //! `initiate` makes the one first token of what is chosen (`Initiates`, law `one_first_token`), or names the first refusal that there is.
 //! `Pending::take` takes an answer if and only if it answers that token (`Takes`): an AP-REP with the authenticator's time, and of SPNEGO
-//! an answer whose MIC is right where there is one, and is there where it is due. A refused answer changes nothing.
+//! an answer whose MIC is right where there is one, and is there where it is due. It consumes what waits, so that one answer is taken at
+//! most. A refusal gives it back as it was.
 #![tactic(auto)]
 
 mod asking;
@@ -22,4 +23,4 @@ pub use asking::{initiate, refusal_of};
 pub use checksum::{NO_BINDINGS, bindings_of};
 pub use initiated::{Initiated, Pending, Progress, TokenForm};
 pub use refusal::InitiateRefusal;
-pub use take::Taken;
+pub use take::{RefusedAnswer, Taken};

@@ -1,11 +1,11 @@
 //! Taking the acceptor's answer.
-ghost use Rattle.std.specs.Prelude.{◌≡◌, None, Some, Err, MatchBool};
+ghost use Rattle.std.specs.Prelude.{◌≡◌, None, Some, Err, IfErr, MatchBool};
 ghost use Rattle.gss_acceptor.specs.Answers.{neg_token_resp};
 ghost use Rattle.gss_acceptor.specs.declared.answer.NegState.TheVariants.{AcceptCompleted};
 ghost use Rattle.gss_initiator.specs.declared.initiated.TokenForm.TheVariants.{Bare};
 ghost use Rattle.gss_initiator.specs.declared.refusal.InitiateRefusal.TheVariants.{NoMic};
 ghost use Rattle.gss_initiator.specs.Replies.{IsRead};
-ghost use Rattle.gss_initiator.specs.Taking.{IsConcluded, IsExchanged, IsVerified, Takes, heard, heard_as, kept, unasked};
+ghost use Rattle.gss_initiator.specs.Taking.{IsConcluded, IsExchanged, IsVerified, Takes, heard, heard_as, kept, outcome_of, unasked};
 
 use crate::heard::Heard;
 use crate::initiated::{Pending, TokenForm};
@@ -38,6 +38,15 @@ impl Model for Taken {
     ghost view = { λ t. record { context = t.context; reply = option_map (λ v. v.items) t.reply } };
 }
 
+/// An answer that isn't taken: why, and the context that waits for another one.
+#[derive(Drop)]
+pub struct RefusedAnswer {
+    /// Why the answer isn't taken.
+    pub refusal: InitiateRefusal,
+    /// The context that still waits for the acceptor's answer.
+    pub pending: Pending,
+}
+
 impl Pending {
     /// Takes the acceptor's answer: a token of Kerberos (RFC 4121, section 4.1), or one of SPNEGO where the first token was (RFC 4178,
     /// section 4.2.2).
@@ -47,9 +56,28 @@ impl Pending {
     /// acceptor's MIC of the list of mechanisms where it asks for the initiator's, which then is in the last token to send (section 5).
     ///
     /// The refusals, in this order: of SPNEGO `NotAToken`, `Rejected`, `OtherMechanism`; of Kerberos' token `NotAToken`, `Refused`,
-    /// `NotSealed`, `NotAsked`, `BadSequenceNumber`, `UnknownKey`, `OldSuite`; of the MICs `NoMic`, `Mic`. A refused answer changes
-    /// nothing: another may be taken.
-    pub fn take(&self, alloc: Global, token: &[u8]) -> Result<Taken, InitiateRefusal>
+    /// `NotSealed`, `NotAsked`, `BadSequenceNumber`, `UnknownKey`, `OldSuite`; of the MICs `NoMic`, `Mic`. A refusal gives the
+    /// context back as it was: another answer may be taken.
+    ///
+    /// One answer is taken at most, since the call consumes what waits. Two contexts would send the same numbers under one key.
+    pub fn take(self, alloc: Global, token: &[u8]) -> Result<Taken, RefusedAnswer>
+        ensures taken { Takes self token.now (outcome_of result) }
+        ensures waits { IfErr result (λ refused. refused.pending ≡ self) }
+    {
+        match self.judge(alloc, token) {
+            Ok(taken) => {
+                drop(self);
+                Ok(taken)
+            }
+            Err(refusal) => Err(RefusedAnswer {
+                refusal,
+                pending: self,
+            }),
+        }
+    }
+
+    // The context that the answer establishes, or why there is none.
+    fn judge(&self, alloc: Global, token: &[u8]) -> Result<Taken, InitiateRefusal>
         ensures { Takes self.now token.now result }
     {
         match self.heard(alloc, token) {

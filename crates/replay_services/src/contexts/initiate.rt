@@ -7,7 +7,8 @@ use super::{Ends, is_named};
 use anyhow::{Context, bail};
 use gss_acceptor::{ContextFlags, InitialChecksum};
 use gss_initiator::{
-    InitiateRefusal, Initiated, NO_BINDINGS, Progress, Taken, TokenForm, bindings_of, initiate,
+    InitiateRefusal, Initiated, NO_BINDINGS, Progress, RefusedAnswer, Taken, TokenForm,
+    bindings_of, initiate,
 };
 use krb_client::{Client, Credential, TicketTimes};
 use krb_crypto::{CipherSuite, Key};
@@ -175,18 +176,25 @@ fn keeps(ends: &mut Ends, progress: Progress) -> &'static str {
     }
 }
 
-/// Takes the answer. Its context takes the place of the last one.
+/// Takes the answer. Its context takes the place of the last one. What waits for an answer is there after a refusal alone.
 pub(crate) fn takes(alloc: Global, ends: &mut Ends, row: &Call<'_>) -> anyhow::Result<bool> {
     let [answer, expected] = row.columns.as_slice() else {
         bail!("a line `take` of another shape");
     };
-    let Some(pending) = &ends.pending else {
+    let Some(pending) = ends.pending.take() else {
         return Ok(false);
     };
     match pending.take(alloc, answer) {
         Ok(taken) => Ok(row.expected == "ok" && is_taken(ends, taken, expected)),
-        Err(refusal) => Ok(is_named(alloc, &refusal, row.expected)),
+        Err(refused) => Ok(is_refused(alloc, ends, row, refused)),
     }
+}
+
+/// Keeps what still waits for an answer. Returns whether the refusal is expected.
+fn is_refused(alloc: Global, ends: &mut Ends, row: &Call<'_>, refused: RefusedAnswer) -> bool {
+    let RefusedAnswer { refusal, pending } = refused;
+    drop(ends.pending.replace(pending));
+    is_named(alloc, &refusal, row.expected)
 }
 
 /// Keeps the context. Returns whether this token is the last to send, or none is.
