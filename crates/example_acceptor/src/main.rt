@@ -1,7 +1,8 @@
 //! The program `example_acceptor`: a service of MIT's sample protocol, as `gss-server` is, on standard input and output.
 //!
-//! `example_acceptor KEYTAB WORDS MOMENT SERVICE [subkey]` is a service with its newest key in a keytab, such as
-//! `host/server.example.com@EXAMPLE.COM`. Tickets under its older keys are refused. The file WORDS has random octets, of which each token of a
+//! `example_acceptor KEYTAB WORDS MOMENT SERVICE [subkey]` is a service with its keys in a keytab, such as
+//! `host/server.example.com@EXAMPLE.COM`. Before each login the keytab is read again, if it changed: the new keys count, and the logins
+//! before stay remembered. The file WORDS has random octets, of which each token of a
 //! login takes 64, and MOMENT is `now` or `YYYYMMDDHHMMSSZ`. It serves the contexts of its stream in turn, and remembers each login until it
 //! ends. Clocks may differ by 300 seconds. With `subkey` a subkey of its own protects each context whose initiator asks for an AP-REP.
 //!
@@ -11,6 +12,7 @@
 
 mod answer;
 mod frame;
+mod keytab_file;
 mod server;
 mod setup;
 

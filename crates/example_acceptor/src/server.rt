@@ -1,12 +1,16 @@
 //! The contexts of a stream, one after the other.
 
+use crate::PROGRAM;
 use crate::answer::{CONTEXT, CONTEXT_NEXT, NOOP, answer_of, is_set};
 use crate::frame::{Frame, read_frame, write_frame};
+use crate::keytab_file::KeytabFile;
 use anyhow::{Context as _, bail};
 use byte_streams::{Sink, Source, read_full};
 use gss_acceptor::{Accepted, Acceptor, Continuation, Established, Negotiation};
 use gss_contexts::Context;
 use krb_commands::PrintableName;
+use krb_programs::say;
+use krb_service::KeytabService;
 use krb_time::{Moment, now};
 use std::alloc::Global;
 use std::time::Clock;
@@ -27,7 +31,9 @@ pub(crate) enum Time {
 #[derive(Drop)]
 pub(crate) struct Server<K: Source + Drop> {
     /// The service, which remembers its logins.
-    pub(crate) acceptor: Acceptor,
+    pub(crate) acceptor: Acceptor<KeytabService>,
+    /// Its keytab.
+    pub(crate) keytab: KeytabFile,
     /// The random octets.
     pub(crate) words: K,
     /// The moments.
@@ -35,6 +41,28 @@ pub(crate) struct Server<K: Source + Drop> {
 }
 
 impl<K: Source + Drop> Server<K> {
+    // Takes the service's keys anew, if the keytab changed. One that can't be read, or has no key of the service, changes nothing.
+    fn refresh(&mut self, rt: &HostRuntime) {
+        let keytab = match self.keytab.read_if_changed(rt) {
+            Ok(Some(keytab)) => keytab,
+            Ok(None) => return,
+            Err(stop) => {
+                say(rt, PROGRAM, format_args!("{stop}: the keys stay"));
+                return;
+            }
+        };
+        let replaced = self.acceptor.replace_keys(rt.alloc(), &keytab);
+        drop(keytab);
+        if let Err(refusal) = replaced {
+            let path = self.keytab.path();
+            say(
+                rt,
+                PROGRAM,
+                format_args!("{path}: {refusal}: the keys stay"),
+            );
+        }
+    }
+
     // Takes an initiator's first token.
     fn accept<C: Clock + AllocGlobal>(&mut self, rt: &C, token: &[u8]) -> anyhow::Result<Accepted> {
         let (moment, words) = self.moment_and_words(rt)?;
@@ -121,6 +149,7 @@ fn establish<K: Source + Drop, R: Source, W: Sink>(
     writer: &mut W,
 ) -> anyhow::Result<Context> {
     let token = context_token(rt.alloc(), reader)?;
+    server.refresh(rt);
     let mut accepted = server.accept(rt, &token)?;
     for _ in 0..u64::MAX {
         accepted = match accepted {
