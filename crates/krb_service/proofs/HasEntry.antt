@@ -1,14 +1,17 @@
 -- Whether a keytab has an entry of a service.
-use Rattle.std.proofs.Common.{◌≡◌, ◌<◌, ℕ, ◌+◌, suc, Bool, true, false, cond, ◌&&◌, ◌||◌, nat_le, List, [], ◌∷◌, length, drop, get_or, Option, None, Some, refl, sym, ap, ◌∙◌, arith}
-use Rattle.std.specs.Prelude.{is_some}
+use Rattle.std.proofs.Common.{◌≡◌, ℕ, suc, Bool, true, false, cond, ◌&&◌, ◌||◌, nat_le, List, [], ◌∷◌, length, Option, None, Some, refl, sym, ap, ◌∙◌, arith}
+use Rattle.std.specs.Prelude.{is_some, Vec}
 use Rattle.std.proofs.lemmas.Bool.{and_right, le-leb}
-use Rattle.std.proofs.lemmas.List.{drop_more}
+use Rattle.std.proofs.lemmas.List.{length-map}
 use Rattle.std.specs.Bool.{nat_eq}
+use Rattle.std.specs.Global.{Global}
 use Rattle.std.specs.Cmp.Lexicographic.{pointwise}
 use Rattle.std.specs.List.{cons_option, list_any}
 use Rattle.std.specs.Option.{option_map}
 use Rattle.krb_crypto.specs.Keys.{KeyRecord}
 use Rattle.krb_file_formats.specs.Entries.{Entry}
+use Rattle.krb_messages.specs.Names.{is_same_name}
+use Rattle.krb_realm_accounts.specs.Names.{parts}
 use Rattle.krb_ap_requests.specs.Entry.{EntryRecord}
 use Rattle.krb_service.specs.KeytabEntries.{entries_of, entry_of, entry_with, has_entry, is_counted, key_of}
 
@@ -32,24 +35,12 @@ some_entry realm components [] = refl
 some_entry realm components (e ∷ es) =
     behind (entry_of realm components e) (entries_of realm components es) (list_any (λ r. is_some (entry_of realm components r)) es) (some_entry realm components es)
 
--- names whose rests from a place on are compared, one component further; and where a component differs
-abbrev is_same : List (List ℕ) → List (List ℕ) → Bool
-is_same = pointwise (pointwise nat_eq)
-
-both_more : (xs ys : List (List ℕ)) (i : ℕ) (d : List ℕ) → i < length xs → i < length ys → is_same (drop i xs) (drop i ys) ≡ (pointwise nat_eq (get_or xs i d) (get_or ys i d) && is_same (drop (i + 1) xs) (drop (i + 1) ys))
-both_more xs ys i d few many = ap (λ zs. is_same zs (drop i ys)) (drop_more xs i d few) ∙ ap (λ zs. is_same (get_or xs i d ∷ drop (i + 1) xs) zs) (drop_more ys i d many)
-
-pub same_more : (xs ys : List (List ℕ)) (i : ℕ) (d : List ℕ) (whole : Bool) → i < length xs → i < length ys → pointwise nat_eq (get_or xs i d) (get_or ys i d) ≡ true
-    → is_same (drop i xs) (drop i ys) ≡ whole → is_same (drop (i + 1) xs) (drop (i + 1) ys) ≡ whole
-same_more xs ys i d whole few many same is = sym (both_more xs ys i d few many ∙ ap (λ b. b && is_same (drop (i + 1) xs) (drop (i + 1) ys)) same) ∙ is
-
-pub other_component : (xs ys : List (List ℕ)) (i : ℕ) (d : List ℕ) (whole : Bool) → i < length xs → i < length ys → pointwise nat_eq (get_or xs i d) (get_or ys i d) ≡ false
-    → is_same (drop i xs) (drop i ys) ≡ whole → false ≡ whole
-other_component xs ys i d whole few many other is = sym (both_more xs ys i d few many ∙ ap (λ b. b && is_same (drop (i + 1) xs) (drop (i + 1) ys)) other) ∙ is
-
 -- names of other lengths
-pub other_length : (xs ys : List (List ℕ)) → (length xs ≡ length ys → ⊥) → is_same xs ys ≡ false
-other_length [] [] other = absurd (other refl)
-other_length [] (y ∷ ys) other = refl
-other_length (x ∷ xs) [] other = refl
-other_length (x ∷ xs) (y ∷ ys) other = and_right (pointwise nat_eq x y) (is_same xs ys) (other_length xs ys (λ same. other (ap suc same)))
+unequal : (xs ys : List (List ℕ)) → (length xs ≡ length ys → ⊥) → is_same_name xs ys ≡ false
+unequal [] [] other = absurd (other refl)
+unequal [] (y ∷ ys) other = refl
+unequal (x ∷ xs) [] other = refl
+unequal (x ∷ xs) (y ∷ ys) other = and_right (pointwise nat_eq x y) (is_same_name xs ys) (unequal xs ys (λ same. other (ap suc same)))
+
+pub other_length : (components : List (List ℕ)) (name : List (Vec ℕ Global)) → (length components ≡ length name → ⊥) → false ≡ is_same_name components (parts name)
+other_length components name other = sym (unequal components (parts name) (λ same. other (same ∙ length-map name (λ v. v.items))))

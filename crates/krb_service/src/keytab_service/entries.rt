@@ -1,5 +1,7 @@
 //! The service's entries in a keytab.
 ghost use Rattle.std.specs.Prelude.{◌≡◌, ◌⊎◌, Ok, Err, IfOk, MatchResult, is_some};
+ghost use Rattle.std.specs.Bool.{nat_eq};
+ghost use Rattle.std.specs.Cmp.Lexicographic.{pointwise};
 ghost use Rattle.krb_messages.specs.Names.{is_same_name};
 ghost use Rattle.krb_realm_accounts.specs.Names.{parts};
 ghost use Rattle.krb_service.specs.KeytabEntries.{entries_of, entry_of, entry_with, has_entry, is_counted, is_record_of, key_of};
@@ -48,12 +50,18 @@ fn has_components(components: &[GeneralStringAsn1], name: &[Vec<u8>]) -> bool
     if components.len() != name.len() {
         return false;
     }
-    for (place, component) in components.iter().enumerate() {
-        if component.as_bytes() != name[place].as_slice() {
-            return false;
-        }
+    let mut same = true;
+    for place in 0..name.len() {
+        same &= has_octets(&components[place], name[place].as_slice());
     }
-    true
+    same
+}
+
+// Whether a component has these octets.
+fn has_octets(component: &GeneralStringAsn1, octets: &[u8]) -> bool
+    ensures { result ≡ pointwise nat_eq component.now octets.now }
+{
+    component.as_bytes() == octets
 }
 
 /// The entries of the service of this realm and this name in a keytab. Where it has none it is refused (`NoKey`).
