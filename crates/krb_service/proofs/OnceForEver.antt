@@ -68,6 +68,6 @@ once_for_ever skew greatest admitted (call ∷ calls) (Err refusal ∷ answers) 
     once_for_ever skew (max greatest call.moment) admitted calls answers after once (refused_by_moment_alone skew greatest admitted call calls refusal answers after run)
 
 pub admissions-append : (answers others : List (Result AdmissionRecord AdmitRefusal)) → admissions_in (answers ++ others) ≡ admissions_in answers + admissions_in others
-admissions-append [] others = refl
-admissions-append (Ok admission ∷ answers) others = ap suc (admissions-append answers others)
+admissions-append [] others = omega arith
+admissions-append (Ok admission ∷ answers) others = omega (arith, admissions-append answers others)
 admissions-append (Err refusal ∷ answers) others = admissions-append answers others
