@@ -8,7 +8,7 @@ use Rattle.krb_crypto.specs.declared.suite.CipherSuite.{CipherSuite}
 use Rattle.krb_messages.specs.declared.data_types.authenticator.AuthenticatorInner.{AuthenticatorInner}
 use Rattle.krb_messages.specs.declared.data_types.enc_ap_rep_part.EncApRepPartInner.{EncApRepPartInner}
 use Rattle.krb_messages.specs.Messages.{IsApRep, ap_rep_tree, enc_ap_rep_part_tree}
-use Rattle.krb_tickets.specs.Sealing.{encrypted_by, sealed_opens}
+use Rattle.krb_tickets.specs.Sealing.{sealed_opens}
 use Rattle.decision_tables.specs.Tables.{Table, done, refuse}
 use Rattle.krb_messages.specs.RandomBytes.{Random}
 use Rattle.krb_service.specs.ApReply.{IsReplyOf, ap_rep_of, ap_rep_part, ap_rep_part_with}
@@ -16,7 +16,7 @@ use Rattle.krb_service.specs.declared.reply.ReplyFields.{ReplyFields}
 use Rattle.krb_service.specs.declared.reply.ReplyFields.TheVariants.{TimeAlone, SubkeyAndNumber}
 use Rattle.krb_client.specs.Asked.{ApAskedRecord}
 use Rattle.krb_client.specs.ApReply.{IsApPart, tells}
-use Rattle.krb_logins.proofs.ReplyTaken.{tells_time}
+use Rattle.krb_logins.proofs.ReplyTaken.{tells_time, whole_part, whole_reply}
 use Rattle.gss_contexts.specs.Contexts.{ContextRecord}
 use Rattle.gss_acceptor.specs.Tokens.{ap_rep_token}
 use Rattle.gss_initiator.specs.Replies.{answered}
@@ -25,13 +25,6 @@ use Rattle.gss_logins.proofs.Unnamed.{Heard}
 use Rattle.gss_initiator.specs.declared.initiated.Pending.{Pending}
 use Rattle.gss_initiator.specs.declared.refusal.InitiateRefusal.{InitiateRefusal}
 use Rattle.gss_initiator.specs.declared.refusal.InitiateRefusal.TheVariants.{Memory, NotAsked}
-
-whole_reply : (suite : CipherSuite) (cipher : Bytes) → IsWhole (ap_rep_tree (ap_rep_of (encrypted_by suite None cipher)))
-whole_reply suite cipher = (((tt, tt), ((tt, tt), ((((tt, tt), ((tt, tt), tt)), tt), tt))), tt)
-
-whole_part : (fields : ReplyFields) (suite : CipherSuite) (words : Random) (authenticator : AuthenticatorInner) → IsWhole (enc_ap_rep_part_tree (ap_rep_part_with fields suite words authenticator))
-whole_part TimeAlone suite words authenticator = (((tt, tt), ((tt, tt), tt)), tt)
-whole_part SubkeyAndNumber suite words authenticator = (((tt, tt), ((tt, tt), ((((tt, tt), ((tt, tt), tt)), tt), ((tt, tt), tt)))), tt)
 
 -- the time that the part tells
 module _ (time : ℕ) (authenticator : AuthenticatorInner) (second : seconds_of authenticator.ctime.0.0 ≡ time / 1000000) (micros : authenticator.cusec.0 ≡ pos (time % 1000000)) where

@@ -93,7 +93,8 @@ told_so true false moment time x = absurd (cc (x))
 told_so true true None time x = absurd (cc (x))
 told_so true true (Some found) time x = (refl, refl, ap Some (sym (ok_same time found x)))
 
-needed : {A T : Type 0} (option : Option A) (code : ℕ) (rest : A → Table (Result T ℕ)) (value : T) → (need {A = A} {T = T} option code rest).gives (Ok value)
+-- past a row that needs a value
+pub needed : {A T : Type 0} (option : Option A) (code : ℕ) (rest : A → Table (Result T ℕ)) (value : T) → (need {A = A} {T = T} option code rest).gives (Ok value)
     → (a : A) × (option ≡ Some a) × (rest a).gives (Ok value)
 needed None code rest value x = absurd (cc (x))
 needed (Some a) code rest value x = (a, refl, x)

@@ -1,6 +1,6 @@
 pub mod Tagged
 pub mod Judged
-mod Suites
+pub mod Suites
 pub mod Presentations
 pub mod HasPresentation
 pub mod Shown

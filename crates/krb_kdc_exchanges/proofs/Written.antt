@@ -94,7 +94,7 @@ same_bytes (x ∷ a) (y ∷ b) e =
     let rest : a ≡ b = same_bytes a b parts.1 in
     cc
 
-header_realm : (kind : ℕ) (realm : List ℕ) (request : KdcReq) → (header_rows kind realm request).gives (Ok tt) → request.req_body.0.realm.0 ≡ realm
+pub header_realm : (kind : ℕ) (realm : List ℕ) (request : KdcReq) → (header_rows kind realm request).gives (Ok tt) → request.req_body.0.realm.0 ≡ realm
 header_realm kind realm request x =
     same_bytes request.req_body.0.realm.0 realm
     (rows (not (is_number 5 request.pvno.0)) (not (is_number kind request.msg_type.0)) (is_same_realm request.req_body.0.realm.0 realm)

@@ -79,7 +79,7 @@ module _ (client : ClientRecord) (means : MeansRecord) (realm : RealmRecord) (ro
           let asked = service_name client realm service before login met.parties met.enough met.honest in
           presents true service.entry grant credential authenticator part_confounder confounder bytes held.part
           sealed held.ticket held.suite held.key asks realm_texts asked (whole_part grant realm_texts names)
-          (whole_authenticator client (login.client_ap % 1000000) second None (client_realm client realm service before login met.parties met.enough met.honest) names)
+          (whole_authenticator client (login.client_ap % 1000000) second None None (client_realm client realm service before login met.parties met.enough met.honest) names)
 
       -- the reply is taken
       taken_so : (reply : Option Bytes) → IsReplyTo presented login.service_words reply → (taken : Result (Unit {0}) TakeRefusal)

@@ -1,5 +1,5 @@
 -- The realm grants the first ticket that an honest client asks for: each row of the AS table is passed.
-use Rattle.std.proofs.Common.{◌≡◌, ℕ, true, false, not, List, Option, None, Some, Result, Ok, refl, sym, ap, ◌∙◌, subst}
+use Rattle.std.proofs.Common.{◌≡◌, ℕ, true, false, not, List, [], ◌∷◌, Option, None, Some, Result, Ok, refl, sym, ap, ◌∙◌, subst}
 use Rattle.std.proofs.lemmas.Bool.{or_left}
 use Rattle.std.specs.Prelude.{pos}
 use Rattle.asn1_leaves.specs.declared.date.GeneralizedTime.{GeneralizedTime}
@@ -212,7 +212,7 @@ module _ (client : ClientRecord) (means : MeansRecord) (realm : RealmRecord) (ro
   first_granted request asks = (
     λ are. replies_at realm rows login.till login.realm_as login.realm_words_as request met.keyed met.honest.lasting.first met.enough.realm_as are,
     λ reply replied.
-        let written = as_request_written asks.padata client (krbtgt_of client.realm) login.till login.words_as request
+        let written = as_request_written asks.padata client (client.suite ∷ []) (krbtgt_of client.realm) login.till login.words_as request
         (realm_text client.realm met.parties.realm) (component_texts client.components met.parties.name) (granting_texts client.realm met.parties.realm) asks.encoding in
         let found = granted_reply IsAgreed call rows (realm.look client.components) (realm.look (krbtgt_of client.realm)) (request_with asks.padata) asked reply (grants asks.padata asks.shown)
         (replied_to call rows request reply (request_with asks.padata) written replied) in (

@@ -4,8 +4,6 @@ use Rattle.std.proofs.lemmas.Bool.{and_from, eq-eqb, eqb-true, lt-leb}
 use Rattle.std.specs.Option.{is_some, option_map_or}
 use Rattle.std.specs.Prelude.{Bool, ◌||◌, ℤ, if◌then◌else◌, pos}
 use Rattle.asn1_der.specs.Length.{element}
-use Rattle.asn1_der.specs.Tree.{IsWhole, leaf}
-use Rattle.asn1_der.proofs.Spelling.{whole-wrapped}
 use Rattle.asn1_leaves.specs.CharSets.{is_general_string}
 use Rattle.asn1_leaves.specs.declared.date.GeneralizedTime.{GeneralizedTime}
 use Rattle.picky_asn1.specs.Bytes.{Bytes}
@@ -28,13 +26,13 @@ use Rattle.krb_messages.specs.declared.data_types.principal_name.PrincipalName.{
 use Rattle.krb_messages.specs.declared.messages.ap_req.ApReqInner.{ApReqInner}
 use Rattle.krb_messages.specs.declared.messages.kdc_req.KdcReq.{KdcReq}
 use Rattle.krb_messages.specs.declared.messages.kdc_req_body.KdcReqBody.{KdcReqBody}
-use Rattle.krb_messages.specs.Messages.{IsApReq, IsAsReq, IsTgsReq, enc_ticket_part_tree, sole_ap_req, sole_as_req, sole_tgs_req, tgs_req_tree}
+use Rattle.krb_messages.specs.Messages.{IsApReq, IsAsReq, IsTgsReq, enc_ticket_part_tree, sole_ap_req, sole_as_req, sole_tgs_req}
 use Rattle.krb_realm_accounts.specs.Account.{AccountRecord}
 use Rattle.krb_realm_accounts.specs.declared.policy.Policy.{Policy}
 use Rattle.decision_tables.specs.Tables.{Table, and_then, ask, done, need, refuse}
 use Rattle.krb_tickets.specs.Keys.{suite_of}
 use Rattle.krb_tickets.specs.Sealing.{encryption_key, is_own_number, sealed_opens}
-use Rattle.krb_messages.specs.Padata.{first_padata, first_of}
+use Rattle.krb_messages.specs.Padata.{first_of, first_padata, padata_in}
 use Rattle.krb_tickets.specs.Grant.{GrantRecord}
 use Rattle.krb_tickets.specs.Parts.{session_key_of, ticket_part}
 use Rattle.krb_tickets.specs.ReplyKeys.{ReplyKeyRecord, tgs_reply_key}
@@ -50,7 +48,6 @@ use Rattle.krb_kdc_exchanges.specs.Rows.{PkinitRows}
 use Rattle.krb_kdc_exchanges.specs.Call.{CallRecord, skew_of}
 use Rattle.krb_kdc_exchanges.specs.Granting.{replied}
 use Rattle.krb_kdc_exchanges.specs.Requests.{IsSpan, account_of, client_of, is_ended, lasting, service_of}
-use Rattle.krb_messages.specs.Padata.{padata_in}
 use Rattle.krb_messages.specs.Bodies.{body_bytes}
 use Rattle.krb_messages.specs.TicketGranting.{krbtgt_of}
 use Rattle.krb_kdc_exchanges.specs.declared.span.Span.{Span}
@@ -81,7 +78,7 @@ use Rattle.krb_logins.proofs.TicketTimes.{has_begun, not_early, not_late, reache
 use Rattle.krb_logins.proofs.Times.{a_second, asked_below, by_a_second, least_of, lesser, moment_told, near}
 use Rattle.krb_logins.proofs.LastSecond.{second_below}
 use Rattle.krb_logins.proofs.WholePresented.{whole_authenticator, whole_part}
-use Rattle.krb_logins.proofs.WholeRequests.{whole_text, whole_texts}
+use Rattle.krb_logins.proofs.WholeRequests.{tgs_request_written}
 
 -- a TGS request is no AS request
 no_as_request : (content bytes : Bytes) → bytes ≡ element 108 content → (request : KdcReq) → IsAsReq bytes request → ⊥
@@ -171,41 +168,6 @@ module _ (suite : CipherSuite) (key : Bytes) (body : KdcReqBody) (authenticator 
 
   covers : (sum : Checksum) → sum ≡ checksum_by suite key (body_bytes body) → table.checksum_in authenticator ≡ Some sum → (covered suite key authenticator body).gives (Ok tt)
   covers sum is has = by_need {T = Unit {0}} {E = ℕ} (table.checksum_in authenticator) 50 sum_rows sum (Ok tt) has (covers_by sum is)
-
--- the client's request can be written
-whole_tgs_request : (client : ClientRecord) (service : List Bytes) (till : GeneralizedTime) (nonce : ℕ) (shown : Bytes)
-    → is_general_string client.realm ≡ true → are_texts service ≡ true → IsWhole (tgs_req_tree (tgs_request_of client service till nonce shown))
-whole_tgs_request client service till nonce shown realm of_service = (
-  (
-    (tt, tt),
-    (
-      (tt, tt),
-      (
-        ((((tt, tt), ((tt, tt), tt)), tt), tt),
-        (
-          (
-            (
-              (tt, tt),
-              (
-                whole-wrapped 162 (leaf (is_general_string client.realm) 27 client.realm) (whole_text 27 client.realm realm),
-                ((((tt, tt), ((whole_texts 27 service of_service, tt), tt)), tt), ((tt, tt), ((tt, tt), (((tt, tt), tt), tt)))),
-              ),
-            ),
-            tt,
-          ),
-          tt,
-        ),
-      ),
-    ),
-  ),
-  tt,
-)
-
-tgs_request_written : (client : ClientRecord) (service : List Bytes) (till : GeneralizedTime) (nonce : ℕ) (shown bytes : Bytes)
-    → is_general_string client.realm ≡ true → are_texts service ≡ true
-    → bytes ≡ tgs_request_bytes (tgs_request_of client service till nonce shown) → IsTgsReq bytes (tgs_request_of client service till nonce shown)
-unfolding tgs_request_bytes
-tgs_request_written client service till nonce shown bytes realm of_service e = (whole_tgs_request client service till nonce shown realm of_service, e)
 
 -- The client's suite is the first that is granted: where triple DES is held back, the client's account has no key of it.
 own_first : (without : Bool) (suite : CipherSuite) → table.is_granted without suite ≡ true → table.first_granted without (pos (cipher_number suite) ∷ []) ≡ Some suite
@@ -352,7 +314,7 @@ module _ (client : ClientRecord) (means : MeansRecord) (realm : RealmRecord) (ro
         opens = record {
           conf = authenticator_confounder (cipher_confounder_size granting.suite) login.words_tgs;
           plain = authenticator_bytes authenticator;
-          writes = (whole_authenticator client (login.client_tgs % 1000000) second (Some sum) (realm_text client.realm met.parties.realm) (component_texts client.components met.parties.name), refl);
+          writes = (whole_authenticator client (login.client_tgs % 1000000) second (Some sum) None (realm_text client.realm met.parties.realm) (component_texts client.components met.parties.name), refl);
           sealed = (
             granting.suite,
             ap cipher_number held.suite,
@@ -474,7 +436,7 @@ module _ (client : ClientRecord) (means : MeansRecord) (realm : RealmRecord) (ro
           × IsTicketReply (further_grant client realm login first span) (tgs_reply_key client.suite session) met.honest.service.account login.realm_words_tgs made)
       granted bytes reply e x =
           let asked = subst (λ n. are_texts n ≡ true) (sym met.honest.named.asked) (component_texts service.entry.components met.parties.entry.1.1) in
-          let is = tgs_request_written client login.service login.till (nonce_of login.words_tgs) shown_bytes bytes (realm_text client.realm met.parties.realm) asked e in
+          let is = tgs_request_written client (client.suite ∷ []) login.service login.till (nonce_of login.words_tgs) shown_bytes bytes (realm_text client.realm met.parties.realm) asked e in
           let judged = replied_to call rows bytes reply request is (no_as_request _ bytes is.1) x in
           let made = table_grants judged.0 judged.1 in
           (made.0, made.1, (made.2.0, subst (λ r. (reply_of call (λ code. None) request r).gives reply) made.2.2 judged.2, made.2.1))

@@ -4,7 +4,7 @@ pub mod Names
 mod LastSecond
 pub mod Times
 pub mod WholeRequests
-mod WholeReplies
+pub mod WholeReplies
 mod Opened
 mod NoErrors
 pub mod GrantTaken
@@ -24,6 +24,7 @@ mod FurtherGranted
 mod OneKey
 pub mod EndsWithOneKey
 mod OneLogin
+pub mod TakenParts
 pub mod ChoicePresented
 mod Admitting
 pub mod StepEnds

@@ -1,5 +1,5 @@
 -- The client takes the service's reply, whose part has the authenticator's time.
-use Rattle.std.proofs.Common.{◌≡◌, ◌/◌, ◌%◌, ◌==◌, true, not, Option, None, Some, Ok, Err, refl, sym, ap, subst, arith}
+use Rattle.std.proofs.Common.{◌≡◌, ◌/◌, ◌%◌, ◌==◌, true, not, [], Option, None, Some, Ok, Err, refl, sym, ap, subst, arith}
 use Rattle.std.proofs.lemmas.Bool.{and_from, eq-eqb}
 use Rattle.std.specs.Prelude.{pos}
 use Rattle.asn1_der.specs.Tree.{IsWhole, der, ders, more, none}
@@ -17,7 +17,9 @@ use Rattle.krb_messages.specs.MessageTrees.{ap_rep_inner_tree}
 use Rattle.krb_tickets.specs.Sealing.{Seals, encrypted_by, sealed_opens}
 use Rattle.decision_tables.specs.Tables.{Table, ask, done}
 use Rattle.krb_messages.specs.RandomBytes.{Random, ap_reply_confounder}
-use Rattle.krb_service.specs.ApReply.{IsReply, IsReplyUnder, ap_rep_of, ap_rep_part}
+use Rattle.krb_service.specs.ApReply.{IsReply, IsReplyUnder, ap_rep_of, ap_rep_part, ap_rep_part_with}
+use Rattle.krb_service.specs.declared.reply.ReplyFields.{ReplyFields}
+use Rattle.krb_service.specs.declared.reply.ReplyFields.TheVariants.{SubkeyAndNumber, TimeAlone}
 use Rattle.krb_client.specs.Asked.{ApAskedRecord}
 use Rattle.krb_client.specs.ApReply.{IsApPart, Shown, TakesApReply, sole_ap_part, takes_answer, takes_ap_reply, takes_time, tells}
 use Rattle.krb_client.specs.Messages.{sole_error_code, IsErrorCode}
@@ -26,11 +28,13 @@ use Rattle.krb_logins.specs.Steps.{reply_bytes}
 use Rattle.krb_logins.proofs.NoErrors.{no_error}
 use Rattle.krb_logins.proofs.Passing.{past_ask, past_none, past_refuse}
 
-whole_reply : (suite : CipherSuite) (cipher : Bytes) → IsWhole (ap_rep_tree (ap_rep_of (encrypted_by suite None cipher)))
+-- the reply, and its part, with any fields, can be written
+pub whole_reply : (suite : CipherSuite) (cipher : Bytes) → IsWhole (ap_rep_tree (ap_rep_of (encrypted_by suite None cipher)))
 whole_reply suite cipher = (((tt, tt), ((tt, tt), ((((tt, tt), ((tt, tt), tt)), tt), tt))), tt)
 
-whole_part : (authenticator : AuthenticatorInner) → IsWhole (enc_ap_rep_part_tree (ap_rep_part authenticator))
-whole_part authenticator = (((tt, tt), ((tt, tt), tt)), tt)
+pub whole_part : (fields : ReplyFields) (suite : CipherSuite) (words : Random) (authenticator : AuthenticatorInner) → IsWhole (enc_ap_rep_part_tree (ap_rep_part_with fields suite words authenticator))
+whole_part TimeAlone suite words authenticator = (((tt, tt), ((tt, tt), tt)), tt)
+whole_part SubkeyAndNumber suite words authenticator = (((tt, tt), ((tt, tt), ((((tt, tt), ((tt, tt), tt)), tt), ((tt, tt), tt)))), tt)
 
 -- the reply as it is read
 pub reply_read : (suite : CipherSuite) (key confounder bytes : Bytes) (authenticator : AuthenticatorInner) (x : IsReplyUnder suite key confounder authenticator bytes) → IsApRep bytes (ap_rep_of x.part)
@@ -45,7 +49,7 @@ part_opened asked suite key confounder bytes authenticator same_suite same_key x
     let plain : Bytes = der (enc_ap_rep_part_tree (ap_rep_part authenticator)) in
     let sealed = subst (λ k. Seals suite k None 12 confounder plain x.part) same_key x.sealed in
     let under = subst (λ s. Seals s asked.key None 12 confounder plain x.part) same_suite sealed in
-    sealed_opens enc_ap_rep_part_tree (ap_rep_part authenticator) asked.suite asked.key None 12 confounder plain x.part (whole_part authenticator, refl) under
+    sealed_opens enc_ap_rep_part_tree (ap_rep_part authenticator) asked.suite asked.key None 12 confounder plain x.part (whole_part TimeAlone asked.suite [] authenticator, refl) under
 
 -- the authenticator's time is the one that is told
 pub tells_time : (moment : Micros) (authenticator : AuthenticatorInner) → seconds_of authenticator.ctime.0.0 ≡ moment / 1000000 → authenticator.cusec.0 ≡ pos (moment % 1000000)

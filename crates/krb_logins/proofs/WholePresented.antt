@@ -9,6 +9,7 @@ use Rattle.picky_asn1.specs.Bytes.{Bytes}
 use Rattle.krb_crypto.specs.declared.suite.CipherSuite.{CipherSuite}
 use Rattle.krb_messages.specs.contracts.data_types.ticket.TicketInnerTagged.TheImpl as ticket_impl
 use Rattle.krb_messages.specs.declared.data_types.checksum.Checksum.{Checksum}
+use Rattle.krb_messages.specs.declared.data_types.encryption_key.EncryptionKey.{EncryptionKey}
 use Rattle.krb_messages.specs.declared.data_types.ticket.TicketInner.{TicketInner}
 use Rattle.krb_messages.specs.Messages.{ap_req_tree, authenticator_tree, enc_ticket_part_tree}
 use Rattle.krb_tickets.specs.Sealing.{encrypted_by}
@@ -44,10 +45,14 @@ unfolding ticket_part
 whole_part grant realm names =
     (((tt, tt), ((((tt, tt), ((tt, tt), tt)), tt), (tagged_text 162 grant.realm realm, ((((tt, tt), ((whole_texts 27 grant.client.name_string.0 names, tt), tt)), tt), ((((tt, tt), ((tt, tt), tt)), tt), ((tt, tt), ((tt, tt), ((tt, tt), tt)))))))), tt)
 
--- a client's authenticator, with a checksum or none
-pub whole_authenticator : (client : ClientRecord) (micros : ℕ) (second : GeneralizedTime) (checksum : Option Checksum) → is_general_string client.realm ≡ true
-    → are_texts client.components ≡ true → IsWhole (authenticator_tree (authenticator_with (authenticator_parts_of client micros) second checksum None))
-whole_authenticator client micros second None realm names =
+-- a client's authenticator, with a checksum or a subkey, or without
+pub whole_authenticator : (client : ClientRecord) (micros : ℕ) (second : GeneralizedTime) (checksum : Option Checksum) (subkey : Option EncryptionKey) → is_general_string client.realm ≡ true
+    → are_texts client.components ≡ true → IsWhole (authenticator_tree (authenticator_with (authenticator_parts_of client micros) second checksum subkey))
+whole_authenticator client micros second None None realm names =
     (((tt, tt), (tagged_text 161 client.realm realm, ((((tt, tt), ((whole_texts 27 client.components names, tt), tt)), tt), ((tt, tt), ((tt, tt), tt))))), tt)
-whole_authenticator client micros second (Some checksum) realm names =
+whole_authenticator client micros second (Some checksum) None realm names =
     (((tt, tt), (tagged_text 161 client.realm realm, ((((tt, tt), ((whole_texts 27 client.components names, tt), tt)), tt), ((((tt, tt), ((tt, tt), tt)), tt), ((tt, tt), ((tt, tt), tt)))))), tt)
+whole_authenticator client micros second None (Some key) realm names =
+    (((tt, tt), (tagged_text 161 client.realm realm, ((((tt, tt), ((whole_texts 27 client.components names, tt), tt)), tt), ((tt, tt), ((tt, tt), ((((tt, tt), ((tt, tt), tt)), tt), tt)))))), tt)
+whole_authenticator client micros second (Some checksum) (Some key) realm names =
+    (((tt, tt), (tagged_text 161 client.realm realm, ((((tt, tt), ((whole_texts 27 client.components names, tt), tt)), tt), ((((tt, tt), ((tt, tt), tt)), tt), ((tt, tt), ((tt, tt), ((((tt, tt), ((tt, tt), tt)), tt), tt))))))), tt)

@@ -6,15 +6,19 @@ use Rattle.asn1_der.proofs.Spelling.{whole-wrapped}
 use Rattle.asn1_leaves.specs.CharSets.{is_general_string}
 use Rattle.asn1_leaves.specs.declared.date.GeneralizedTime.{GeneralizedTime}
 use Rattle.picky_asn1.specs.Bytes.{Bytes}
+use Rattle.krb_crypto.specs.declared.suite.CipherSuite.{CipherSuite}
 use Rattle.krb_messages.specs.RandomBytes.{Random}
 use Rattle.krb_messages.specs.Trees as held
 use Rattle.krb_messages.specs.declared.data_types.encrypted_data.EncryptedData.{EncryptedData}
 use Rattle.krb_messages.specs.declared.data_types.pa_data.PaData.{PaData}
 use Rattle.krb_messages.specs.declared.data_types.pa_enc_timestamp.PaEncTsEnc.{PaEncTsEnc}
-use Rattle.krb_messages.specs.Messages.{IsAsReq, as_req_tree}
-use Rattle.krb_client.specs.AsRequest.{as_body, as_request_of}
+use Rattle.krb_messages.specs.Messages.{IsAsReq, IsTgsReq, as_req_tree, tgs_req_tree}
+use Rattle.krb_kdc_exchanges.proofs.PartTrees.{integer_tree}
+use Rattle.krb_client.specs.AsRequest.{as_body_of_suites, as_request_of}
 use Rattle.krb_client.specs.Client.{ClientRecord}
-use Rattle.krb_client.specs.Messages.{as_request_bytes, encrypted_bytes, timestamp_bytes}
+use Rattle.krb_client.specs.Messages.{as_request_bytes, encrypted_bytes, tgs_request_bytes, timestamp_bytes}
+use Rattle.krb_client.specs.Requests.{etypes}
+use Rattle.krb_client.specs.TgsRequest.{further_request}
 use Rattle.krb_logins.proofs.Names.{are_texts}
 
 pub whole_text : (first : ℕ) (text : Bytes) → is_general_string text ≡ true → IsWhole (leaf (is_general_string text) first text)
@@ -50,11 +54,16 @@ pub writes_timestamp : (timestamp : PaEncTsEnc) → Writes held.pa_enc_ts_enc_tr
 unfolding timestamp_bytes
 writes_timestamp timestamp = (whole_timestamp timestamp, refl)
 
--- the request for a first ticket, with any padata
-whole_as_request : (padata : PaData) (client : ClientRecord) (service : List Bytes) (till : GeneralizedTime) (words : Random)
+-- the etypes that a request lists
+whole_etypes : (suites : List CipherSuite) → AreWhole (trees_of integer_tree (etypes suites))
+whole_etypes [] = tt
+whole_etypes (suite ∷ suites) = (tt, whole_etypes suites)
+
+-- the request for a first ticket, with any padata and any suites
+whole_as_request : (padata : PaData) (client : ClientRecord) (suites : List CipherSuite) (service : List Bytes) (till : GeneralizedTime) (words : Random)
     → is_general_string client.realm ≡ true → are_texts client.components ≡ true → are_texts service ≡ true
-    → IsWhole (as_req_tree (as_request_of padata (as_body client service till words)))
-whole_as_request padata client service till words realm name of_service = (
+    → IsWhole (as_req_tree (as_request_of padata (as_body_of_suites client suites service till words)))
+whole_as_request padata client suites service till words realm name of_service = (
   (
     (tt, tt),
     (
@@ -69,7 +78,7 @@ whole_as_request padata client service till words realm name of_service = (
                 (((tt, tt), ((whole_texts 27 client.components name, tt), tt)), tt),
                 (
                   whole-wrapped 162 (leaf (is_general_string client.realm) 27 client.realm) (whole_text 27 client.realm realm),
-                  ((((tt, tt), ((whole_texts 27 service of_service, tt), tt)), tt), ((tt, tt), ((tt, tt), (((tt, tt), tt), tt)))),
+                  ((((tt, tt), ((whole_texts 27 service of_service, tt), tt)), tt), ((tt, tt), ((tt, tt), ((whole_etypes suites, tt), tt)))),
                 ),
               ),
             ),
@@ -83,8 +92,45 @@ whole_as_request padata client service till words realm name of_service = (
   tt,
 )
 
-pub as_request_written : (padata : PaData) (client : ClientRecord) (service : List Bytes) (till : GeneralizedTime) (words : Random) (bytes : Bytes)
+pub as_request_written : (padata : PaData) (client : ClientRecord) (suites : List CipherSuite) (service : List Bytes) (till : GeneralizedTime) (words : Random) (bytes : Bytes)
     → is_general_string client.realm ≡ true → are_texts client.components ≡ true → are_texts service ≡ true
-    → bytes ≡ as_request_bytes (as_request_of padata (as_body client service till words)) → IsAsReq bytes (as_request_of padata (as_body client service till words))
+    → bytes ≡ as_request_bytes (as_request_of padata (as_body_of_suites client suites service till words))
+    → IsAsReq bytes (as_request_of padata (as_body_of_suites client suites service till words))
 unfolding as_request_bytes
-as_request_written padata client service till words bytes realm name of_service e = (whole_as_request padata client service till words realm name of_service, e)
+as_request_written padata client suites service till words bytes realm name of_service e =
+    (whole_as_request padata client suites service till words realm name of_service, e)
+
+-- the request for a further ticket
+whole_tgs_request : (client : ClientRecord) (suites : List CipherSuite) (service : List Bytes) (till : GeneralizedTime) (nonce : ℕ) (shown : Bytes)
+    → is_general_string client.realm ≡ true → are_texts service ≡ true → IsWhole (tgs_req_tree (further_request client suites service till nonce shown))
+whole_tgs_request client suites service till nonce shown realm of_service = (
+  (
+    (tt, tt),
+    (
+      (tt, tt),
+      (
+        ((((tt, tt), ((tt, tt), tt)), tt), tt),
+        (
+          (
+            (
+              (tt, tt),
+              (
+                whole-wrapped 162 (leaf (is_general_string client.realm) 27 client.realm) (whole_text 27 client.realm realm),
+                ((((tt, tt), ((whole_texts 27 service of_service, tt), tt)), tt), ((tt, tt), ((tt, tt), ((whole_etypes suites, tt), tt)))),
+              ),
+            ),
+            tt,
+          ),
+          tt,
+        ),
+      ),
+    ),
+  ),
+  tt,
+)
+
+pub tgs_request_written : (client : ClientRecord) (suites : List CipherSuite) (service : List Bytes) (till : GeneralizedTime) (nonce : ℕ) (shown bytes : Bytes)
+    → is_general_string client.realm ≡ true → are_texts service ≡ true
+    → bytes ≡ tgs_request_bytes (further_request client suites service till nonce shown) → IsTgsReq bytes (further_request client suites service till nonce shown)
+unfolding tgs_request_bytes
+tgs_request_written client suites service till nonce shown bytes realm of_service e = (whole_tgs_request client suites service till nonce shown realm of_service, e)

@@ -39,7 +39,7 @@ refused_by_moment_alone skew greatest admitted call calls refusal answers after 
     (kept_refused skew (max greatest call.moment) admitted call refusal next answered) rest
 
 -- a service of one key that has this entry and this skew
-abbrev service_by : EntryRecord → ℕ → ServiceRecord
+abbrev pub service_by : EntryRecord → ℕ → ServiceRecord
 service_by entry skew = record { entry = entry; seen = record { greatest = 0; skew = skew; held = [] } }
 
 by_service : (skew moment : ℕ) (admitted : List PairRecord) (call : AdmissionCall) (outcome : Outcome) → (answer_to skew moment admitted call).gives outcome
