@@ -1,0 +1,9 @@
+pub mod Among
+pub mod Parties
+pub mod Grants
+pub mod Ciphertexts
+pub mod Authentic
+pub mod Named
+pub mod Taken
+pub mod Runs
+pub mod Honest
