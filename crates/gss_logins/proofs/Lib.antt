@@ -1,6 +1,8 @@
 mod Unnamed
 mod Conversation
 mod Presented
+mod Sent
+mod Authentic
 mod Admitted
 mod Accepted
 mod Replied

@@ -26,7 +26,7 @@ use Rattle.gss_logins.specs.GssLogins.{GssLogin, choice_of, confounder_of}
 use Rattle.gss_logins.specs.Honest.{IsHonest}
 
 -- an authenticator with a checksum, a subkey and a sequence number
-whole_own : (client : ClientRecord) (micros : ℕ) (second : GeneralizedTime) (sum : Checksum) (key : EncryptionKey) (number : ℕ) → is_general_string client.realm ≡ true
+pub whole_own : (client : ClientRecord) (micros : ℕ) (second : GeneralizedTime) (sum : Checksum) (key : EncryptionKey) (number : ℕ) → is_general_string client.realm ≡ true
     → list_all is_general_string client.components ≡ true
     → IsWhole (authenticator_tree (numbered (authenticator_with (authenticator_parts_of client micros) second (Some sum) (Some key)) number))
 whole_own client micros second sum key number realm names =

@@ -2,3 +2,4 @@ pub mod GssLogins
 pub mod Honest
 pub mod OneContext
 pub mod Granted
+pub mod Carried

@@ -1,13 +1,23 @@
 //! The laws of both ends of a context. Each is a function that does nothing when it runs: its contract is the law.
-ghost use Rattle.std.specs.Prelude.{◌≡◌, ◌<◌, List, ℕ, Ok, Result};
+ghost use Rattle.std.specs.Prelude.{◌≡◌, ◌<◌, List, ℕ, Ok, Option, Result};
 ghost use Rattle.krb_client.specs.Client.{ClientRecord, CredentialRecord};
 ghost use Rattle.krb_kdc_exchanges.specs.declared.span.Span.{Span};
+ghost use Rattle.krb_service.specs.Pair.{PairRecord};
+ghost use Rattle.krb_service.specs.Seen.{IsWindow};
 ghost use Rattle.krb_service.specs.Service.{ServiceRecord};
 ghost use Rattle.krb_logins.specs.Held.{IsFirstSpan, IsFurtherSpan, IsHeld, further_grant};
 ghost use Rattle.krb_logins.specs.Laws.{IsMet};
 ghost use Rattle.krb_logins.specs.LoginRun.{Exchanges};
 ghost use Rattle.krb_logins.specs.Parties.{LoginRecord, RealmRecord, RememberedRecord};
+ghost use Rattle.krb_authenticity.specs.Ciphertexts.{IsRealmUnforged};
+ghost use Rattle.krb_authenticity.specs.Parties.{ExchangeRecord, IsClient, IsServiceSent, SentRecord, service_request_of};
+ghost use Rattle.gss_acceptor.specs.Accepting.{AcceptorRecord, AdmitRequest, Handles, Takes, VerifyMic, carried};
+ghost use Rattle.gss_acceptor.specs.Established.{EstablishedRecord};
+ghost use Rattle.gss_acceptor.specs.declared.accepted.Accepted.{Accepted};
+ghost use Rattle.gss_acceptor.specs.declared.accepted.Accepted.TheVariants.{Established};
 ghost use Rattle.gss_acceptor.specs.declared.checksum.InitialChecksum.{InitialChecksum};
+ghost use Rattle.gss_acceptor.specs.declared.exchange.Exchange.{Exchange};
+ghost use Rattle.gss_acceptor.specs.declared.exchange.Unverified.{Unverified};
 ghost use Rattle.gss_acceptor.specs.declared.terms.AcceptorTerms.{AcceptorTerms};
 ghost use Rattle.gss_contexts.specs.Contexts.{ContextRecord, last_number, sender_of};
 ghost use Rattle.gss_contexts.specs.Tokens.{WritesMic, WritesWrap};
@@ -15,12 +25,17 @@ ghost use Rattle.gss_contexts.specs.declared.side.Protection.{Protection};
 ghost use Rattle.gss_initiator.specs.Initiating.{InitiatedRecord, Initiates};
 ghost use Rattle.gss_initiator.specs.declared.initiated.TokenForm.TheVariants.{Bare, Negotiated};
 ghost use Rattle.gss_initiator.specs.declared.refusal.InitiateRefusal.{InitiateRefusal};
+ghost use Rattle.gss_initiator.specs.Checksums.{is_mutual};
+ghost use Rattle.gss_initiator.specs.Requests.{AsksContext};
+ghost use Rattle.gss_logins.specs.Carried.{Carries, IsAuthenticAfter, IsAuthenticContext, IsMessageUnforged};
 ghost use Rattle.gss_logins.specs.Granted.{IsContextAsked, IsHonestGssLogin, IsRemembered, gss_login_of};
 ghost use Rattle.gss_logins.specs.GssLogins.{GssLogin};
 ghost use Rattle.gss_logins.specs.Honest.{IsAnswering, IsHonest};
 ghost use Rattle.gss_logins.specs.OneContext.{AreEnds, EndsInOneContext, IsMessageTaken, IsMicTaken};
 
+use gss_acceptor::laws::established_as_presented;
 use gss_contexts::laws::{mic_is_taken, unwraps_to_its_message, wrap_is_taken};
+use krb_authenticity::laws::presented_was_authenticated;
 use krb_client::Means;
 use krb_kdc_exchanges::Pkinit;
 
@@ -65,4 +80,32 @@ pub fn one_conversation()
     wrap_is_taken();
     unwraps_to_its_message();
     mic_is_taken();
+}
+
+/// What an initiator sends is a request of the client, as the laws of `krb_authenticity` take it.
+pub fn context_request_is_sent()
+    ensures { (client : ClientRecord) (credential : CredentialRecord) (initial : InitialChecksum) (moment : ℕ) (words bytes : List ℕ) → IsClient client
+        → (asks : AsksContext client credential initial moment words bytes)
+        → IsServiceSent (service_request_of client credential (is_mutual initial.flags) moment words bytes asks.authenticator) }
+{}
+
+/// Where no ciphertext was forged, whoever gets a context of an acceptor the realm had authenticated: by a first token, by any AP-REQ that
+/// is admitted, also one that waits for its initiator's MIC, and after the MIC was verified.
+pub fn established_was_authenticated<P: Pkinit>(pkinit: &P)
+    ensures first { (keys : List (List ℕ)) (exchanges : List ExchangeRecord) (sent : SentRecord) (acceptor after : AcceptorRecord) (moment : ℕ) (token random : List ℕ) (admitted : List PairRecord)
+        (established : EstablishedRecord) → IsRealmUnforged (P.rows pkinit.now) keys exchanges sent
+        → ((message : List ℕ) → Carries token message → IsMessageUnforged (P.rows pkinit.now) keys exchanges sent acceptor message)
+        → IsWindow acceptor.service.seen admitted → Handles (carried token) acceptor moment random (Ok (Established established)) after
+        → IsAuthenticContext (P.rows pkinit.now) keys exchanges sent established }
+    ensures admitted { (keys : List (List ℕ)) (exchanges : List ExchangeRecord) (sent : SentRecord) (acceptor after : AcceptorRecord) (moment : ℕ) (message random : List ℕ)
+        (exchange : Option Exchange) (admitted : List PairRecord) (accepted : Accepted) → IsRealmUnforged (P.rows pkinit.now) keys exchanges sent
+        → IsMessageUnforged (P.rows pkinit.now) keys exchanges sent acceptor message
+        → IsWindow acceptor.service.seen admitted → Takes (AdmitRequest message exchange) acceptor moment random (Ok accepted) after
+        → IsAuthenticAfter (P.rows pkinit.now) keys exchanges sent accepted }
+    ensures verified { (keys : List (List ℕ)) (exchanges : List ExchangeRecord) (sent : SentRecord) (acceptor after : AcceptorRecord) (moment : ℕ) (theirs random : List ℕ)
+        (unverified : Unverified) (accepted : Accepted) → IsAuthenticContext (P.rows pkinit.now) keys exchanges sent unverified.established
+        → Takes (VerifyMic unverified theirs) acceptor moment random (Ok accepted) after → IsAuthenticAfter (P.rows pkinit.now) keys exchanges sent accepted }
+{
+    established_as_presented();
+    presented_was_authenticated(pkinit);
 }

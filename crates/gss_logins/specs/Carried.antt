@@ -1,0 +1,49 @@
+-- The AP-REQ that a first token carries, and contexts of clients that the realm had authenticated.
+use Rattle.std.specs.Prelude.{◌≡◌, List, Ok}
+use Rattle.picky_asn1.specs.Bytes.{Bytes}
+use Rattle.krb_messages.specs.Messages.{IsApReq}
+use Rattle.krb_messages.specs.declared.messages.ap_req.ApReqInner.{ApReqInner}
+use Rattle.krb_kdc_exchanges.specs.Rows.{PkinitRows}
+use Rattle.krb_ap_requests.specs.ApTable.{enc_part_in}
+use Rattle.krb_ap_requests.specs.Presents.{Choice}
+use Rattle.krb_service.specs.ChosenEntry.{chosen}
+use Rattle.krb_authenticity.specs.Authentic.{WasAuthenticated}
+use Rattle.krb_authenticity.specs.Ciphertexts.{IsRequestUnforged}
+use Rattle.krb_authenticity.specs.Parties.{ExchangeRecord, SentRecord}
+use Rattle.gss_acceptor.specs.Accepting.{AcceptorRecord, AdmitRequest, AskFor, Step, VerifyMic, carried}
+use Rattle.gss_acceptor.specs.Chosen.{IsChosen}
+use Rattle.gss_acceptor.specs.Established.{EstablishedRecord}
+use Rattle.gss_acceptor.specs.declared.accepted.Accepted.{Accepted}
+use Rattle.gss_acceptor.specs.declared.accepted.Accepted.TheVariants.{ContinueNeeded, Established}
+use Rattle.gss_acceptor.specs.declared.accepted.Stage.{Stage}
+use Rattle.gss_acceptor.specs.declared.accepted.Stage.TheVariants.{Mic, Token}
+
+abbrev pub IsToAdmit : Bytes → Step → Type 0
+IsToAdmit message (AskFor mechanism terms) = ⊥
+IsToAdmit message (AdmitRequest own exchange) = own ≡ message
+IsToAdmit message (VerifyMic unverified theirs) = ⊥
+
+-- the token carries this AP-REQ, bare or in a message of SPNEGO
+abbrev pub Carries : Bytes → Bytes → Type 0
+Carries token message = (step : Step) × (carried token).gives (Ok step) × IsToAdmit message step
+
+-- none of the ciphertexts was forged that the acceptor opens of this message, by the entry that judges it
+abbrev pub IsMessageUnforged : PkinitRows → List Bytes → List ExchangeRecord → SentRecord → AcceptorRecord → Bytes → Type 0
+IsMessageUnforged rows keys exchanges sent acceptor message =
+    (request : ApReqInner) → IsApReq message request → IsRequestUnforged rows keys exchanges sent (chosen acceptor.service.entries (enc_part_in request)) message
+
+-- the context is as some client chose that the realm had authenticated
+pub record IsAuthenticContext (rows : PkinitRows) (keys : List Bytes) (exchanges : List ExchangeRecord) (sent : SentRecord) (established : EstablishedRecord) : Type 0 where
+  pub choice : Choice
+  pub is_chosen : IsChosen choice established
+  pub client : WasAuthenticated rows keys exchanges sent established.realm established.client established.authtime
+
+-- so is a context that waits for its initiator's MIC
+abbrev pub IsAuthenticAt : PkinitRows → List Bytes → List ExchangeRecord → SentRecord → Stage → Type 0
+IsAuthenticAt rows keys exchanges sent (Token terms) = ⊥
+IsAuthenticAt rows keys exchanges sent (Mic unverified) = IsAuthenticContext rows keys exchanges sent unverified.established
+
+-- and one that is accepted
+abbrev pub IsAuthenticAfter : PkinitRows → List Bytes → List ExchangeRecord → SentRecord → Accepted → Type 0
+IsAuthenticAfter rows keys exchanges sent (Established established) = IsAuthenticContext rows keys exchanges sent established
+IsAuthenticAfter rows keys exchanges sent (ContinueNeeded continuation) = IsAuthenticAt rows keys exchanges sent continuation.negotiation.stage
