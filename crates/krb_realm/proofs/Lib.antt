@@ -10,6 +10,8 @@ mod MadeClients
 mod Rows
 mod Honesty
 pub mod Shown
+mod Signatures
+mod HonestSignatures
 mod Wholeness
 pub mod Writable
 pub mod Trusting

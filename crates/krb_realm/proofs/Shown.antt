@@ -65,16 +65,16 @@ use Rattle.krb_realm.proofs.Wholeness.{key_bits, key_element}
 
 -- what a table gave without an error: each row was passed, and each value was there
 
-past_refuse : {T E : Type 0} (case : Bool) (error : E) (rest : Table (Result T E)) (r : T) → (refuse case error rest).gives (Ok r) → (case ≡ false) × rest.gives (Ok r)
+pub past_refuse : {T E : Type 0} (case : Bool) (error : E) (rest : Table (Result T E)) (r : T) → (refuse case error rest).gives (Ok r) → (case ≡ false) × rest.gives (Ok r)
 past_refuse true error rest r x = absurd (same_parts (Ok r) (Err error) x)
 past_refuse false error rest r x = (refl, x)
 
-needed : {A T E : Type 0} (option : Option A) (error : E) (rest : A → Table (Result T E)) (r : T) → (need option error rest).gives (Ok r)
+pub needed : {A T E : Type 0} (option : Option A) (error : E) (rest : A → Table (Result T E)) (r : T) → (need option error rest).gives (Ok r)
     → (a : A) × (option ≡ Some a) × (rest a).gives (Ok r)
 needed None error rest r x = absurd (same_parts (Ok r) (Err error) x)
 needed (Some a) error rest r x = (a, refl, x)
 
-found : {A T E : Type 0} (P : A → Type 0) (sole : IsSole P) (error : E) (rest : A → Table (Result T E)) (r : T)
+pub found : {A T E : Type 0} (P : A → Type 0) (sole : IsSole P) (error : E) (rest : A → Table (Result T E)) (r : T)
     → (ask P sole (done (Err error)) rest).gives (Ok r) → (a : A) × P a × (rest a).gives (Ok r)
 found P sole error rest r (inl x) = x
 found P sole error rest r (inr x) = absurd (same_parts (Ok r) (Err error) x.1)
@@ -85,12 +85,12 @@ found_as P sole error rest r a is x =
     let own = found P sole error rest r x in
     subst (λ b. (rest b).gives (Ok r)) (sole own.0 a own.1 is) own.2
 
-went_on : {A T E : Type 0} (t : Table (Result A E)) (rest : A → Table (Result T E)) (r : T) → (and_then t rest).gives (Ok r)
+pub went_on : {A T E : Type 0} (t : Table (Result A E)) (rest : A → Table (Result T E)) (r : T) → (and_then t rest).gives (Ok r)
     → (a : A) × t.gives (Ok a) × (rest a).gives (Ok r)
 went_on t rest r (inl x) = x
 went_on t rest r (inr x) = absurd (same_parts (Ok r) (Err x.0) x.2)
 
-went_on_told : {A T E F : Type 0} (told : E → F) (t : Table (Result A E)) (rest : A → Table (Result T F)) (r : T) → (and_then_told told t rest).gives (Ok r)
+pub went_on_told : {A T E F : Type 0} (told : E → F) (t : Table (Result A E)) (rest : A → Table (Result T F)) (r : T) → (and_then_told told t rest).gives (Ok r)
     → (a : A) × t.gives (Ok a) × (rest a).gives (Ok r)
 went_on_told told t rest r (inl x) = x
 went_on_told told t rest r (inr x) = absurd (same_parts (Ok r) (Err (told x.0)) x.2)
@@ -101,7 +101,7 @@ went_on_as t rest r a is x =
     let own = went_on t rest r x in
     subst (λ b. (rest b).gives (Ok r)) (same_parts (Ok own.0) (Ok a) (t.one (Ok own.0) (Ok a) own.1 is)) own.2
 
-holds : (b : Bool) → not b ≡ false → b ≡ true
+pub holds : (b : Bool) → not b ≡ false → b ≡ true
 holds true e = refl
 holds false e = absurd (cc (e))
 

@@ -7,3 +7,4 @@ pub mod ExchangeMeans
 pub mod Honest
 pub mod HonestByCertificate
 pub mod HonestByRsa
+pub mod Signatures

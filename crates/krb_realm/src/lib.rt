@@ -30,6 +30,7 @@ mod honest_by_certificate;
 pub mod laws;
 mod login;
 mod rsa_laws;
+mod signature_laws;
 
 pub use byte_streams::{Sink, SinkFault, Source};
 pub use client::Client;
