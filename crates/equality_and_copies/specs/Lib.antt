@@ -6,3 +6,4 @@ pub mod Equalities
 pub mod Views
 pub mod WrappedEquality
 pub mod Seen
+pub mod CredentialFields

@@ -1,9 +1,10 @@
 //! `==` of the types of X.509 and Kerberos is equality of values, and a copy of a value is the value.
 //!
 //! Each type of X.509 and of the Kerberos messages has the law [`Equality`], with the leaves and wrappers of its fields, and with the
-//! faults. Each type of the Kerberos messages has the law [`Copies`], too; for the types of X.509 each contract of `clone` says it. A type
-//! with a parameter has a law where its parameter has. Tokens, PACs and NEGOEX messages hold their bytes in a `Vec`, of which a contract
-//! says more than its bytes: the laws of `layout_equality` speak of the words by which contracts name what a value carries.
+//! faults. So have terms of contexts, groups, moments, settings, and records of keytabs and credential caches. Each type of the Kerberos
+//! messages has the law [`Copies`], too; for the other types each contract of `clone` says it. A type with a parameter has a law where its
+//! parameter has. Tokens, PACs and NEGOEX messages hold their bytes in a `Vec`, of which a contract says more than its bytes: the laws of
+//! `layout_equality` speak of the words by which contracts name what a value carries.
 //!
 //! `==` of two values whose type has [`Equality`] is true exactly where they are one value (`is_equality`), and [`is_one_value`] compares
 //! them so. `==` of two views is true exactly where they borrow one value ([`attribute_views`], [`extension_views`], [`name_views`]). A

@@ -15,6 +15,7 @@ use krb_constants::error_names::ErrorCode;
 use krb_messages::NameTextFault;
 use picky_asn1_der::{Asn1DerError, Rule, Unsupported};
 use std::io::ErrorKind;
+use x509_certificates::FileFault;
 
 impl Equality for LeafFault {
     ghost is_equality = { bare leaf_fault_type tt };
@@ -61,4 +62,11 @@ impl Equality for NameTextFault {
 
 impl Equality for ErrorCode {
     ghost is_equality = { fields error_code_type (last unsigned_Decides) };
+}
+
+impl Equality for FileFault {
+    ghost use Rattle.x509_certificates.specs.contracts.fault.FileFault.{«enum»};
+
+    ghost is_equality = { variants «enum» (or_none (or_field unsigned_Decides (or_field unsigned_Decides (or_field unsigned_Decides
+        (or_field unsigned_Decides (or_field unsigned_Decides (or_none tt))))))) };
 }
