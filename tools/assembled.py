@@ -1,10 +1,11 @@
-"""Many programs of this repository as the modules of one crate, and many crates of tests as those of another, so that `rt try` builds each
-once. Nothing is proved: it is text for a run."""
+"""Many programs of this repository as the modules of one crate, and crates of tests as those of another, so that `rt try` builds each once.
+Nothing is proved: it is text for a run."""
 import os, re, shutil
 
 from programs import TOP, below
 
-# What runs a program by its name. A program whose `main` returns an error ends with status 1, as with a `main` of its own.
+# What runs a program by its name, in the folder of that name, which has its data: there is none where it has no data. A program whose
+# `main` returns an error ends with status 1, as with a `main` of its own.
 MAIN = """//! Programs, by the name that is the first argument.
 #![tactic(auto)]
 
@@ -20,6 +21,7 @@ fn main(rt: HostRuntime) -> ExitCode {{
         return ExitCode::from(126);
     }};
     drop(arguments);
+    let _ = env::set_current_dir(&rt, name.as_str());
     match name.as_str() {{
 {arms}        _ => ExitCode::from(127),
     }}
@@ -33,6 +35,7 @@ fn ended(outcome: anyhow::Result<()>) -> ExitCode {{
 }}
 """
 ENTRY = re.compile(r"^fn main\(rt: HostRuntime\) -> (.*) \{$", re.M)
+TACTIC = re.compile(r"^#!?\[tactic\(.*\)\]$", re.M)
 # What reads the arguments, whose first one is the program's name now; `given.skip(1)` is that of krb_programs.
 OWN_ARGUMENTS = re.compile(r"\benv::args\((&?rt)\)\?")
 SHARED_ARGUMENTS = "given.skip(1)"
@@ -58,7 +61,7 @@ def sources(crate):
 
 def as_module(crate, text):
     """A source of a crate as one of a module of that name: what it names from its crate's root is in the module."""
-    text = text.replace("#![tactic(auto)]\n", "")
+    text = TACTIC.sub("", text)
     text = re.sub(r"\bcrate::", f"crate::{crate}::", text)
     return OWN_ARGUMENTS.sub(r"env::args(\1)?.skip(1)", text)
 
