@@ -18,7 +18,6 @@ use picky_asn1::wrapper::GeneralStringAsn1;
 use std::alloc::{AllocError, Global};
 
 /// Whether a keytab has an entry of the service of this realm and this name. It takes no memory.
-#[tactic(auto, using(crate::proofs::HasEntry::some_entry))]
 pub(crate) fn has_entry(realm: &[u8], name: &[Vec<u8>], keytab: &Keytab) -> bool
     ensures { result ≡ has_entry realm.now (parts name.now) keytab.now }
 {
@@ -86,7 +85,6 @@ pub(crate) fn own_entries(
 }
 
 // Whether a keytab has an entry of this realm and this name.
-#[tactic(auto, using(crate::proofs::HasEntry::some_entry))]
 fn has_own_entry(realm: &GeneralStringAsn1, name: &[GeneralStringAsn1], keytab: &Keytab) -> bool
     ensures { result ≡ has_entry realm.now name.now keytab.now }
 {
