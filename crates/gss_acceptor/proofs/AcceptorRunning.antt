@@ -5,7 +5,6 @@ use Rattle.krb_service.specs.Admission.{AdmissionRecord}
 use Rattle.krb_service.specs.Admits.{Admits}
 use Rattle.krb_service.specs.OnceForEver.{AreOnce, admissions_in}
 use Rattle.krb_service.specs.Pair.{PairRecord}
-use Rattle.krb_service.specs.RememberingService.{remembering_by}
 use Rattle.krb_service.specs.Runs.{AdmissionCall, IsRun, answer_to, greatest_after}
 use Rattle.krb_service.specs.Seen.{IsWindow, SeenRecord}
 use Rattle.krb_service.specs.KeytabService.{KeytabServiceRecord}
@@ -88,7 +87,8 @@ between_more old mid new admitted least more one rest = record {
 none_begun : (message : List ℕ) (exchange : Option Exchange) (made : Result EstablishedRecord AcceptRefusal) (cause : AdmitRefusal) (result : Result Accepted AcceptRefusal)
     → made ≡ Err (Admit cause) → IsAnsweredAs exchange made result → begun_by (AdmitRequest message exchange) result ≤ 0
 none_begun message exchange made cause (Ok accepted) is answered_so =
-    let never = subst (λ (m : Result EstablishedRecord AcceptRefusal). IsAnsweredAs exchange m (Ok accepted)) is answered_so in absurd (cc (never))
+    let never : ◌≡◌ {A = Result Accepted AcceptRefusal} (Ok accepted) (Err (Admit cause)) = subst (λ (m : Result EstablishedRecord AcceptRefusal). IsAnsweredAs exchange m (Ok accepted)) is answered_so in
+    absurd (cc (never))
 none_begun message exchange made cause (Err refusal) is answered_so = omega arith
 
 one_begun : (message : List ℕ) (exchange : Option Exchange) (result : Result Accepted AcceptRefusal) → begun_by (AdmitRequest message exchange) result ≤ 1
