@@ -244,7 +244,7 @@ module _ (client : ClientRecord) (means : MeansRecord) (decided : AreDecided mea
   abbrev AreOneRun : {A E : Type 0} → (E → Type 0) → Result A E → Result A E → RememberedRecord → RememberedRecord → Type 0
   AreOneRun memory result other after other_after = Wants memory result ⊎ Wants memory other ⊎ ((result ≡ other) × (after ≡ other_after))
 
-  admitted_by : (gives : Outcome → Type 0) (admitted after : List PairRecord) (answer : Result AdmissionRecord AdmitRefusal) → runs.IsAnswered gives admitted answer after
+  admitted_by : (gives : Outcome → Type 0) (admitted after : List PairRecord) (answer : Result AdmissionRecord AdmitRefusal) → runs.IsAdmissionAnswer gives admitted answer after
       → Wants AdmitWants answer ⊎ gives (answer, after)
   admitted_by gives admitted after (Ok admission) x = inr x
   admitted_by gives admitted after (Err admit_refusal.Unreadable) x = inr x
@@ -272,7 +272,7 @@ module _ (client : ClientRecord) (means : MeansRecord) (decided : AreDecided mea
       one_outcome table answer other after other_after same
       (admitted_by table.gives before.admitted after.admitted answer x.1)
       (admitted_by table.gives before.admitted other_after.admitted other
-      (subst (λ g. runs.IsAnswered (remembering service g before.admitted request login.service_words).gives before.admitted other other_after.admitted) (sym same) y.1))
+      (subst (λ g. runs.IsAdmissionAnswer (remembering service g before.admitted request login.service_words).gives before.admitted other other_after.admitted) (sym same) y.1))
 
   -- what the client shows of an admission
   one_shown : (asked : ApAskedRecord) (answer : Result AdmissionRecord AdmitRefusal) → IsOne IsWantOfMemory (after_admission asked answer)

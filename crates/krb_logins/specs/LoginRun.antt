@@ -67,7 +67,7 @@ after_admission asked (Err refusal) = λ result. result ≡ Err (Admitted refusa
 unfoldable pub IsAdmitted : ServiceRecord → LoginRecord → Bytes → RememberedRecord → Result AdmissionRecord AdmitRefusal → RememberedRecord → Type 0
 IsAdmitted service login request before answer after =
     (after.greatest ≡ max before.greatest login.service_ap)
-    × runs.IsAnswered (remembering service after.greatest before.admitted request login.service_words).gives before.admitted answer after.admitted
+    × runs.IsAdmissionAnswer (remembering service after.greatest before.admitted request login.service_words).gives before.admitted answer after.admitted
 
 -- the AP exchange: by the ticket for the service the client is admitted, and the service shows that it could open the ticket
 unfoldable pub ApExchange : ClientRecord → ServiceRecord → LoginRecord → CredentialRecord → RememberedRecord → Result Login LoginRefusal → RememberedRecord → Type 0

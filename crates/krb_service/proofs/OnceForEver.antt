@@ -10,7 +10,7 @@ use Rattle.krb_service.proofs.Admitting.{admissible_with}
 use Rattle.krb_service.specs.Once.{Admitted}
 use Rattle.krb_service.specs.OnceForEver.{AreOnce, admissions_in}
 use Rattle.krb_service.specs.RememberingService.{Outcome, outcome_of, remembering_by, remembering_with}
-use Rattle.krb_service.specs.Runs.{AdmissionCall, IsAnswered, IsRun, answer_to}
+use Rattle.krb_service.specs.Runs.{AdmissionCall, IsAdmissionAnswer, IsRun, answer_to}
 use Rattle.krb_service.specs.Service.{ServiceRecord}
 
 -- what is refused leaves the pairs
@@ -25,7 +25,7 @@ kept_by_table skew moment admitted call refusal next (inl x) = kept_by admitted 
 kept_by_table skew moment admitted call refusal next (inr x) = ap (λ o. o.1) x.1
 
 kept_refused : (skew moment : ℕ) (admitted : List PairRecord) (call : AdmissionCall) (refusal : AdmitRefusal) (next : List PairRecord)
-    → IsAnswered (answer_to skew moment admitted call).gives admitted (Err refusal) next → next ≡ admitted
+    → IsAdmissionAnswer (answer_to skew moment admitted call).gives admitted (Err refusal) next → next ≡ admitted
 kept_refused skew moment admitted call Unreadable next x = kept_by_table skew moment admitted call Unreadable next x
 kept_refused skew moment admitted call (Krb code) next x = kept_by_table skew moment admitted call (Krb code) next x
 kept_refused skew moment admitted call Memory next x = x
