@@ -12,7 +12,7 @@ use Rattle.gss_contexts.specs.declared.terms.ContextTerms.{ContextTerms}
 use Rattle.decision_tables.specs.Tables.{Table, and_then, ask, done, need}
 use Rattle.gss_acceptor.specs.Answers.{ap_rep_in}
 use Rattle.gss_acceptor.specs.Checksum.{bound_by, initial_in}
-use Rattle.gss_acceptor.specs.Concluding.{IsAnswered, IsGiven, IsVerified, asking}
+use Rattle.gss_acceptor.specs.Concluding.{IsContextAnswered, IsGiven, IsVerified, asking}
 use Rattle.gss_acceptor.specs.Contexts.{context_in, end_key, end_terms, fields_of, first_number}
 use Rattle.gss_acceptor.specs.Established.{EstablishedRecord}
 use Rattle.gss_acceptor.specs.Negotiation.{offered}
@@ -153,7 +153,7 @@ Establishes acceptor moment message random result after =
 
 -- what was made of the AP-REQ is answered as it came
 abbrev pub IsAnsweredAs : Option Exchange → Result EstablishedRecord AcceptRefusal → Result Accepted AcceptRefusal → Type 0
-IsAnsweredAs exchange (Ok established) result = IsAnswered exchange established result
+IsAnsweredAs exchange (Ok established) result = IsContextAnswered exchange established result
 IsAnsweredAs exchange (Err refusal) result = result ≡ Err refusal
 
 -- the step is taken. Only an AP-REQ changes the acceptor, and of it the service alone

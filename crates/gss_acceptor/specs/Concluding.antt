@@ -101,9 +101,9 @@ IsConcluded exchange established result =
     (λ theirs. IsMicAnswered established exchange.supported exchange.terms.list theirs result)
 
 -- the initiator of a context is answered as its token came: bare, or in a message of SPNEGO
-abbrev pub IsAnswered : Option Exchange → EstablishedRecord → Result Accepted AcceptRefusal → Type 0
-IsAnswered None established result = result ≡ Ok (Established established)
-IsAnswered (Some exchange) established result = IsConcluded exchange established result
+abbrev pub IsContextAnswered : Option Exchange → EstablishedRecord → Result Accepted AcceptRefusal → Type 0
+IsContextAnswered None established result = result ≡ Ok (Established established)
+IsContextAnswered (Some exchange) established result = IsConcluded exchange established result
 
 -- the initiator's MIC, which is due: the context is handed out, and nothing is answered
 abbrev pub IsVerified : Unverified → Bytes → Result Accepted AcceptRefusal → Type 0

@@ -1,7 +1,7 @@
 //! Acceptors.
 ghost use Rattle.std.specs.Prelude.{◌≡◌, ◌≤◌, length};
 ghost use Rattle.gss_acceptor.specs.Accepting.{AdmitRequest, Establishes, Handles, Takes, carried, held, negotiated, next, opened, responded_to, resumed};
-ghost use Rattle.gss_acceptor.specs.Concluding.{IsAnswered, IsLast};
+ghost use Rattle.gss_acceptor.specs.Concluding.{IsContextAnswered, IsLast};
 
 use crate::accepted::{Accepted, Negotiation, Stage};
 use crate::conclude::{ask, conclude, verify};
@@ -301,7 +301,7 @@ fn answered(
     established: Established,
     exchange: Option<Exchange>,
 ) -> Result<Accepted, AcceptRefusal>
-    ensures { IsAnswered exchange established result }
+    ensures { IsContextAnswered exchange established result }
 {
     match exchange {
         Some(exchange) => conclude(alloc, established, exchange),

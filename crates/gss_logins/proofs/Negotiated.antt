@@ -16,7 +16,7 @@ use Rattle.gss_contexts.specs.declared.context_tokens.neg_token_targ.NegTokenTar
 use Rattle.gss_contexts.specs.Contexts.{is_newer}
 use Rattle.gss_acceptor.specs.Accepting.{AdmitRequest, Handles, carried, held, negotiated}
 use Rattle.gss_acceptor.specs.Answers.{neg_token_resp, state_field, supported_field}
-use Rattle.gss_acceptor.specs.Concluding.{IsAnswered}
+use Rattle.gss_acceptor.specs.Concluding.{IsContextAnswered}
 use Rattle.gss_acceptor.specs.Established.{EstablishedRecord}
 use Rattle.gss_acceptor.specs.Negotiation.{mech_types_octets, neg_init_tree, offered}
 use Rattle.gss_acceptor.specs.Responses.{IsNegResp, neg_resp_tree}
@@ -96,7 +96,7 @@ own_answer token = neg_token_resp AcceptCompleted (Some Standard) token None
 abbrev handed : EstablishedRecord → EstablishedRecord
 handed established = record established { reply = Some (own_answer established.reply) }
 
-hands_out : (established : EstablishedRecord) (result : Result Accepted AcceptRefusal) → IsAnswered (Some own_exchange) established result
+hands_out : (established : EstablishedRecord) (result : Result Accepted AcceptRefusal) → IsContextAnswered (Some own_exchange) established result
     → (result ≡ Ok (Established (handed established))) ⊎ (result ≡ Err accept_refusal.Memory)
 hands_out established result (inl memory) = inr memory
 hands_out established result (inr is) = inl is

@@ -31,7 +31,7 @@ use Rattle.gss_contexts.specs.Contexts.{ContextRecord, is_newer}
 use Rattle.gss_contexts.specs.Tokens.{is_set}
 use Rattle.gss_contexts.specs.declared.side.Side.TheVariants.{Initiator}
 use Rattle.gss_acceptor.specs.Accepting.{AcceptorRecord, AdmitRequest, Establishes, Handles, IsAnsweredAs, IsEstablished, Step, Takes, carried, established_of, judged}
-use Rattle.gss_acceptor.specs.Concluding.{IsAnswered}
+use Rattle.gss_acceptor.specs.Concluding.{IsContextAnswered}
 use Rattle.gss_acceptor.specs.Established.{EstablishedRecord}
 use Rattle.gss_acceptor.specs.Tokens.{ap_rep_token}
 use Rattle.gss_acceptor.specs.declared.accepted.Accepted.{Accepted}
@@ -194,7 +194,7 @@ module _ (login : GssLogin) (honest : IsHonest login) (request : Bytes) (asks : 
 
   -- where it hands this out of a context, as the request came
   module _ (exchange : Option Exchange) (handed : EstablishedRecord → EstablishedRecord)
-      (hands_out : (established : EstablishedRecord) (result : Result Accepted AcceptRefusal) → IsAnswered exchange established result
+      (hands_out : (established : EstablishedRecord) (result : Result Accepted AcceptRefusal) → IsContextAnswered exchange established result
       → (result ≡ Ok (Established (handed established))) ⊎ (result ≡ Err accept_refusal.Memory)) where
     -- by what was established of an admission
     by_established : (reply : Option Bytes) → IsDueReply (is_mutual login.initial.flags) reply → (made : Result EstablishedRecord AcceptRefusal) (result : Result Accepted AcceptRefusal)
@@ -375,7 +375,7 @@ one_context login (Ok initiated) honest (offered, sends, progressed) = λ answer
     let own = subst (λ (t : Bytes). Handles (carried t) (acceptor_of login) login.service_at login.service_words answer after) sends.is_token handles in
     let request = sends.request in
     let asks = sends.asks in
-    let hands_out : (established : EstablishedRecord) (result : Result Accepted AcceptRefusal) → IsAnswered None established result → (result ≡ Ok (Established established)) ⊎ (result ≡ Err accept_refusal.Memory) = λ established result is. inl is in
+    let hands_out : (established : EstablishedRecord) (result : Result Accepted AcceptRefusal) → IsContextAnswered None established result → (result ≡ Ok (Established established)) ⊎ (result ≡ Err accept_refusal.Memory) = λ established result is. inl is in
     by_result login honest request asks None (λ e. e) hands_out initiated.progress
     (λ reply due. ((refl, refl), ended_so login honest request asks (is_mutual login.initial.flags) reply initiated.progress refl due progressed))
     answer (by_handling login honest request asks None (λ e. e) hands_out (ap_req_token request) (own_carried login honest request asks) after answer own)
