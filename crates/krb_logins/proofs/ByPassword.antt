@@ -30,7 +30,7 @@ use Rattle.krb_client.specs.Messages.{encrypted_bytes, timestamp_bytes}
 use Rattle.krb_tickets.specs.MethodData.{pa_data_of}
 use Rattle.krb_client.specs.EncryptedTimestamps.{IsSealedTime, IsPaEncTimestamp, by_key, timestamp_of}
 use Rattle.krb_service.specs.Service.{ServiceRecord}
-use Rattle.krb_logins.specs.Authenticated.{IsAgreedKey, IsAuthenticated, first_asked, first_body}
+use Rattle.krb_logins.specs.Authenticated.{IsAgreedKey, IsAuthenticated, as_body_of_login, first_asked}
 use Rattle.krb_logins.specs.Honest.{AreEnough, AreParties, IsGranting, IsHonestByPassword, common_skew}
 use Rattle.krb_logins.specs.Laws.{IsMet}
 use Rattle.krb_logins.specs.Parties.{LoginRecord, RealmRecord, RememberedRecord, call_at}
@@ -128,10 +128,10 @@ module _ (client : ClientRecord) (key : Bytes) (realm : RealmRecord) (rows : Pki
   }
 
   replied_under : (padata : PaData) → IsPaEncTimestamp client.suite key login.client_as login.words_as padata → (r : Result ReplyKeyRecord ℕ)
-      → (authenticated call rows account client.components (as_request_of padata (first_body client login))).gives r → r ≡ Ok (as_reply_key account)
+      → (authenticated call rows account client.components (as_request_of padata (as_body_of_login client login))).gives r → r ≡ Ok (as_reply_key account)
   replied_under padata it r x =
-      let own = subst (λ p. (authenticated call rows account client.components (as_request_of p (first_body client login))).gives r) it.made x in
-      own_key call rows account client.components (as_request_of (pa_data_of 2 (encrypted_bytes it.encrypted_timestamp)) (first_body client login)) (no_pkinit (encrypted_bytes it.encrypted_timestamp))
+      let own = subst (λ p. (authenticated call rows account client.components (as_request_of p (as_body_of_login client login))).gives r) it.made x in
+      own_key call rows account client.components (as_request_of (pa_data_of 2 (encrypted_bytes it.encrypted_timestamp)) (as_body_of_login client login)) (no_pkinit (encrypted_bytes it.encrypted_timestamp))
       (shown it.encrypted_timestamp it.sealed_time) r own
 
   pub authenticated_by_key : IsAuthenticated client (by_key client.suite key) realm rows account login

@@ -37,7 +37,7 @@ use Rattle.krb_client.specs.Client.{ClientRecord}
 use Rattle.krb_client.specs.Held.{principal_name}
 use Rattle.krb_client.specs.Means.{MeansRecord}
 use Rattle.krb_client.specs.Requests.{nonce_of, request_body}
-use Rattle.krb_logins.specs.Authenticated.{IsAgreedKey, first_asked, first_body}
+use Rattle.krb_logins.specs.Authenticated.{IsAgreedKey, as_body_of_login, first_asked}
 use Rattle.krb_logins.specs.Held.{IsFirstSpan, first_grant}
 use Rattle.krb_logins.specs.Honest.{common_skew}
 use Rattle.krb_logins.specs.Laws.{IsFirstGranted, IsMet}
@@ -173,7 +173,7 @@ module _ (client : ClientRecord) (means : MeansRecord) (realm : RealmRecord) (ro
   }
 
   abbrev body : KdcReqBody
-  body = first_body client login
+  body = as_body_of_login client login
 
   abbrev request_with : PaData → KdcReq
   request_with padata = as_request_of padata body

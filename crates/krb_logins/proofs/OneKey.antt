@@ -41,7 +41,7 @@ use Rattle.krb_logins.specs.Honest.{IsOneKey, IsWantOfMemory, clock_of, login_pa
 use Rattle.krb_logins.specs.Laws.{IsClientAdmitted, IsFirstGranted, IsFirstTaken, IsFurtherGranted, IsFurtherTaken, IsMet}
 use Rattle.krb_logins.specs.LoginRun.{ApExchange, AsExchange, Exchanges, IsAdmitted, Login, LoginRun, TgsExchange, ended, followed, after_admission}
 use Rattle.krb_logins.specs.Parties.{LoginRecord, RealmRecord, RememberedRecord, call_at}
-use Rattle.krb_logins.specs.Steps.{IsAnswered, IsApAsked, IsAsAsked, IsTgsAsked, IsUnnamed, reply_bytes}
+use Rattle.krb_logins.specs.Steps.{IsApAsked, IsAsAsked, IsKdcAnswered, IsTgsAsked, IsUnnamed, reply_bytes}
 use Rattle.krb_logins.specs.declared.refusal.LoginRefusal.{LoginRefusal}
 use Rattle.krb_logins.specs.declared.refusal.LoginRefusal.TheVariants.{Answered, Asked, Taken}
 
@@ -111,14 +111,14 @@ taken_memory table take_refusal.NotAsked values x = absurd (no_refusal _ _ (valu
 
 -- what is replied to with a reply is answered, memory aside
 answered_memory : (call : CallRecord) (rows : PkinitRows) (request : Bytes) (refusal : AnswerRefusal) → ((reply : Option Bytes) → Replies call rows request reply → (granted : Bytes) × (reply ≡ Some granted))
-    → IsAnswered call rows request (Err refusal) → refusal ≡ answer_refusal.Memory
-unfolding IsAnswered
+    → IsKdcAnswered call rows request (Err refusal) → refusal ≡ answer_refusal.Memory
+unfolding IsKdcAnswered
 answered_memory call rows request answer_refusal.Memory replies x = refl
 answered_memory call rows request answer_refusal.Unreadable replies x = absurd (no_reply _ (replies None x).1)
 answered_memory call rows request answer_refusal.Accounts replies x = absurd x
 
-answered_reply : (call : CallRecord) (rows : PkinitRows) (request reply : Bytes) → IsAnswered call rows request (Ok reply) → Replies call rows request (Some reply)
-unfolding IsAnswered
+answered_reply : (call : CallRecord) (rows : PkinitRows) (request reply : Bytes) → IsKdcAnswered call rows request (Ok reply) → Replies call rows request (Some reply)
+unfolding IsKdcAnswered
 answered_reply call rows request reply x = x
 
 -- the ticket-granting service has a name
@@ -168,9 +168,9 @@ module _ (client : ClientRecord) (means : MeansRecord) (realm : RealmRecord) (ro
         (λ refusal. taken_memory (takes_as_reply client means sent.1 reply) refusal (λ taken x. let it = as_value reply taken replied x in (it.0, it.1)))
 
     as_answered : (result : Result CredentialRecord LoginRefusal)
-        → followed (IsAnswered as_call rows sent.0) Answered (λ reply. followed (IsTaken (takes_as_reply client means sent.1 reply)) Taken ended) result → Ends HoldsFirst result
+        → followed (IsKdcAnswered as_call rows sent.0) Answered (λ reply. followed (IsTaken (takes_as_reply client means sent.1 reply)) Taken ended) result → Ends HoldsFirst result
     as_answered result =
-        followed_ends (IsAnswered as_call rows sent.0) Answered (λ reply. followed (IsTaken (takes_as_reply client means sent.1 reply)) Taken ended) HoldsFirst result
+        followed_ends (IsKdcAnswered as_call rows sent.0) Answered (λ reply. followed (IsTaken (takes_as_reply client means sent.1 reply)) Taken ended) HoldsFirst result
         (λ reply answered. as_taken result reply (answered_reply as_call rows sent.0 reply answered))
         (λ refusal. answered_memory as_call rows sent.0 refusal as_granted)
 
@@ -183,7 +183,7 @@ module _ (client : ClientRecord) (means : MeansRecord) (realm : RealmRecord) (ro
   unfolding AsExchange
   as_ends result =
       followed_ends (IsAsAsked client means (krbtgt_of client.realm) login.till login.client_as login.words_as) Asked
-      (λ sent. followed (IsAnswered as_call rows sent.0) Answered (λ reply. followed (IsTaken (takes_as_reply client means sent.1 reply)) Taken ended)) HoldsFirst result
+      (λ sent. followed (IsKdcAnswered as_call rows sent.0) Answered (λ reply. followed (IsTaken (takes_as_reply client means sent.1 reply)) Taken ended)) HoldsFirst result
       (λ sent asked. as_answered sent asked result)
       as_unasked
 
@@ -221,9 +221,9 @@ module _ (client : ClientRecord) (means : MeansRecord) (realm : RealmRecord) (ro
         (λ refusal. taken_memory (takes_tgs_reply client sent.1 reply) refusal (λ taken x. let it = tgs_value reply taken replied x in (it.0, it.1)))
 
     tgs_answered : (result : Result CredentialRecord LoginRefusal)
-        → followed (IsAnswered tgs_call rows sent.0) Answered (λ reply. followed (IsTaken (takes_tgs_reply client sent.1 reply)) Taken ended) result → Ends HoldsFurther result
+        → followed (IsKdcAnswered tgs_call rows sent.0) Answered (λ reply. followed (IsTaken (takes_tgs_reply client sent.1 reply)) Taken ended) result → Ends HoldsFurther result
     tgs_answered result =
-        followed_ends (IsAnswered tgs_call rows sent.0) Answered (λ reply. followed (IsTaken (takes_tgs_reply client sent.1 reply)) Taken ended) HoldsFurther result
+        followed_ends (IsKdcAnswered tgs_call rows sent.0) Answered (λ reply. followed (IsTaken (takes_tgs_reply client sent.1 reply)) Taken ended) HoldsFurther result
         (λ reply answered. tgs_taken result reply (answered_reply tgs_call rows sent.0 reply answered))
         (λ refusal. answered_memory tgs_call rows sent.0 refusal tgs_granted)
 
@@ -239,7 +239,7 @@ module _ (client : ClientRecord) (means : MeansRecord) (realm : RealmRecord) (ro
   unfolding TgsExchange
   tgs_ends granting result holds =
       followed_ends (IsTgsAsked client granting login.service login.till login.client_tgs login.words_tgs) Asked
-      (λ sent. followed (IsAnswered tgs_call rows sent.0) Answered (λ reply. followed (IsTaken (takes_tgs_reply client sent.1 reply)) Taken ended)) HoldsFurther result
+      (λ sent. followed (IsKdcAnswered tgs_call rows sent.0) Answered (λ reply. followed (IsTaken (takes_tgs_reply client sent.1 reply)) Taken ended)) HoldsFurther result
       (λ sent asked. tgs_answered granting holds sent asked result)
       (tgs_unasked granting)
 

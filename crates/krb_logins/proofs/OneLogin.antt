@@ -38,7 +38,7 @@ use Rattle.krb_logins.proofs.OneKey.{no_refusal, no_reply, one_reply, one_value}
 use Rattle.krb_logins.specs.Honest.{IsWantOfMemory, WantsMemory}
 use Rattle.krb_logins.specs.LoginRun.{ApExchange, AsExchange, Exchanges, IsAdmitted, Login, LoginRun, TgsExchange, ended, followed, after_admission}
 use Rattle.krb_logins.specs.Parties.{LoginRecord, RealmRecord, RememberedRecord, call_at}
-use Rattle.krb_logins.specs.Steps.{AreDecided, IsAnswered, IsApAsked, IsAsAsked, IsTgsAsked, IsUnnamed, reply_bytes}
+use Rattle.krb_logins.specs.Steps.{AreDecided, IsApAsked, IsAsAsked, IsKdcAnswered, IsTgsAsked, IsUnnamed, reply_bytes}
 use Rattle.krb_logins.specs.declared.refusal.LoginRefusal.{LoginRefusal}
 use Rattle.krb_logins.specs.declared.refusal.LoginRefusal.TheVariants.{Answered, Asked, Taken}
 
@@ -164,8 +164,8 @@ one_ap_asked client credential moment words (Ok sent) (Err refusal) x y = inr (i
 one_ap_asked client credential moment words (Err refusal) other x y = inl x
 
 -- the realm's reply is one
-one_answered : (call : CallRecord) (rows : PkinitRows) (request : Bytes) → IsOne AnswerWants (IsAnswered call rows request)
-unfolding IsAnswered
+one_answered : (call : CallRecord) (rows : PkinitRows) (request : Bytes) → IsOne AnswerWants (IsKdcAnswered call rows request)
+unfolding IsKdcAnswered
 one_answered call rows request (Ok reply) (Ok other) x y = inr (inr (ap Ok (one_reply reply other (replies.one_reply call rows request (Some reply) (Some other) x y))))
 one_answered call rows request (Ok reply) (Err answer_refusal.Unreadable) x y = absurd (no_reply reply (replies.one_reply call rows request None (Some reply) y x))
 one_answered call rows request (Err answer_refusal.Unreadable) (Ok reply) x y = absurd (no_reply reply (replies.one_reply call rows request None (Some reply) x y))
@@ -218,8 +218,8 @@ module _ (client : ClientRecord) (means : MeansRecord) (decided : AreDecided mea
   unfolding AsExchange
   one_as_exchange =
       one_followed AskWants (IsAsAsked client means (krbtgt_of client.realm) login.till login.client_as login.words_as) Asked
-      (λ sent. followed (IsAnswered as_call rows sent.0) Answered (λ reply. followed (IsTaken (takes_as_reply client means sent.1 reply)) Taken ended))
-      (λ sent. one_followed AnswerWants (IsAnswered as_call rows sent.0) Answered (λ reply. followed (IsTaken (takes_as_reply client means sent.1 reply)) Taken ended)
+      (λ sent. followed (IsKdcAnswered as_call rows sent.0) Answered (λ reply. followed (IsTaken (takes_as_reply client means sent.1 reply)) Taken ended))
+      (λ sent. one_followed AnswerWants (IsKdcAnswered as_call rows sent.0) Answered (λ reply. followed (IsTaken (takes_as_reply client means sent.1 reply)) Taken ended)
       (λ reply. one_taking (takes_as_reply client means sent.1 reply)) answer_aside (one_answered as_call rows sent.0))
       ask_aside (one_as_asked client means (krbtgt_of client.realm) login.till login.client_as login.words_as decided)
 
@@ -227,8 +227,8 @@ module _ (client : ClientRecord) (means : MeansRecord) (decided : AreDecided mea
   unfolding TgsExchange
   one_tgs_exchange granting =
       one_followed AskWants (IsTgsAsked client granting login.service login.till login.client_tgs login.words_tgs) Asked
-      (λ sent. followed (IsAnswered tgs_call rows sent.0) Answered (λ reply. followed (IsTaken (takes_tgs_reply client sent.1 reply)) Taken ended))
-      (λ sent. one_followed AnswerWants (IsAnswered tgs_call rows sent.0) Answered (λ reply. followed (IsTaken (takes_tgs_reply client sent.1 reply)) Taken ended)
+      (λ sent. followed (IsKdcAnswered tgs_call rows sent.0) Answered (λ reply. followed (IsTaken (takes_tgs_reply client sent.1 reply)) Taken ended))
+      (λ sent. one_followed AnswerWants (IsKdcAnswered tgs_call rows sent.0) Answered (λ reply. followed (IsTaken (takes_tgs_reply client sent.1 reply)) Taken ended)
       (λ reply. one_taking (takes_tgs_reply client sent.1 reply)) answer_aside (one_answered tgs_call rows sent.0))
       ask_aside (one_tgs_asked client granting login.service login.till login.client_tgs login.words_tgs)
 

@@ -23,8 +23,8 @@ use Rattle.krb_client.specs.declared.refusal.TakeRefusal.{TakeRefusal}
 use Rattle.krb_logins.specs.Parties.{LoginRecord, RealmRecord, call_at}
 
 -- the body of a login's request for a first ticket
-abbrev pub first_body : ClientRecord → LoginRecord → KdcReqBody
-first_body client login = as_body client (krbtgt_of client.realm) login.till login.words_as
+abbrev pub as_body_of_login : ClientRecord → LoginRecord → KdcReqBody
+as_body_of_login client login = as_body client (krbtgt_of client.realm) login.till login.words_as
 
 -- what the client remembers of that request
 abbrev pub first_asked : ClientRecord → LoginRecord → AsAskedRecord
@@ -41,8 +41,8 @@ pub record IsAgreedKey (client : ClientRecord) (means : MeansRecord) (asked : As
 -- the client's means don't refuse its request. By each padata that they have for it the realm authenticates the client, and replies
 -- under a key that both agree on
 pub record IsAuthenticated (client : ClientRecord) (means : MeansRecord) (realm : RealmRecord) (rows : PkinitRows) (account : AccountRecord) (login : LoginRecord) : Type 0 where
-  pub asks : means.refuses (first_body client login) login.client_as login.words_as → ⊥
-  pub shown : (padata : PaData) → means.asks (first_body client login) login.client_as login.words_as padata
+  pub asks : means.refuses (as_body_of_login client login) login.client_as login.words_as → ⊥
+  pub shown : (padata : PaData) → means.asks (as_body_of_login client login) login.client_as login.words_as padata
       → (r : Result ReplyKeyRecord Code)
-      → (authenticated (call_at realm login.realm_as login.realm_words_as) rows account client.components (as_request_of padata (first_body client login))).gives r
+      → (authenticated (call_at realm login.realm_as login.realm_words_as) rows account client.components (as_request_of padata (as_body_of_login client login))).gives r
       → (under : ReplyKeyRecord) × (r ≡ Ok under) × IsAgreedKey client means (first_asked client login) under

@@ -20,7 +20,7 @@ use Rattle.krb_service.specs.RememberingService.{remembering}
 use Rattle.krb_service.specs.Runs as runs
 use Rattle.krb_service.specs.Service.{ServiceRecord}
 use Rattle.krb_logins.specs.Parties.{LoginRecord, RealmRecord, RememberedRecord, call_at}
-use Rattle.krb_logins.specs.Steps.{IsAnswered, IsApAsked, IsAsAsked, IsTgsAsked, reply_bytes}
+use Rattle.krb_logins.specs.Steps.{IsApAsked, IsAsAsked, IsKdcAnswered, IsTgsAsked, reply_bytes}
 use Rattle.krb_logins.specs.declared.refusal.LoginRefusal.{LoginRefusal}
 use Rattle.krb_logins.specs.declared.refusal.LoginRefusal.TheVariants.{Admitted, Answered, Asked, Taken}
 
@@ -38,14 +38,14 @@ ended made result = result ≡ Ok made
 unfoldable pub AsExchange : ClientRecord → MeansRecord → RealmRecord → PkinitRows → LoginRecord → Result CredentialRecord LoginRefusal → Type 0
 AsExchange client means realm rows login =
     followed (IsAsAsked client means (krbtgt_of client.realm) login.till login.client_as login.words_as) Asked (λ sent.
-    followed (IsAnswered (call_at realm login.realm_as login.realm_words_as) rows sent.0) Answered (λ reply.
+    followed (IsKdcAnswered (call_at realm login.realm_as login.realm_words_as) rows sent.0) Answered (λ reply.
     followed (IsTaken (takes_as_reply client means sent.1 reply)) Taken ended))
 
 -- the TGS exchange: by that ticket one for the service
 unfoldable pub TgsExchange : ClientRecord → RealmRecord → PkinitRows → LoginRecord → CredentialRecord → Result CredentialRecord LoginRefusal → Type 0
 TgsExchange client realm rows login granting =
     followed (IsTgsAsked client granting login.service login.till login.client_tgs login.words_tgs) Asked (λ sent.
-    followed (IsAnswered (call_at realm login.realm_tgs login.realm_words_tgs) rows sent.0) Answered (λ reply.
+    followed (IsKdcAnswered (call_at realm login.realm_tgs login.realm_words_tgs) rows sent.0) Answered (λ reply.
     followed (IsTaken (takes_tgs_reply client sent.1 reply)) Taken ended))
 
 -- both: the ticket for the service, with its session key

@@ -50,11 +50,11 @@ IsApAsked client credential moment words (Ok sent) =
 IsApAsked client credential moment words (Err refusal) = refusal ≡ ask_refusal.Memory
 
 -- the realm answers a request. It has its accounts in memory, so they can always be read
-unfoldable pub IsAnswered : CallRecord → PkinitRows → Bytes → Result Bytes AnswerRefusal → Type 0
-IsAnswered call rows request (Ok reply) = Replies call rows request (Some reply)
-IsAnswered call rows request (Err answer_refusal.Unreadable) = Replies call rows request None
-IsAnswered call rows request (Err answer_refusal.Memory) = Unit {0}
-IsAnswered call rows request (Err answer_refusal.Accounts) = ⊥
+unfoldable pub IsKdcAnswered : CallRecord → PkinitRows → Bytes → Result Bytes AnswerRefusal → Type 0
+IsKdcAnswered call rows request (Ok reply) = Replies call rows request (Some reply)
+IsKdcAnswered call rows request (Err answer_refusal.Unreadable) = Replies call rows request None
+IsKdcAnswered call rows request (Err answer_refusal.Memory) = Unit {0}
+IsKdcAnswered call rows request (Err answer_refusal.Accounts) = ⊥
 
 -- the bytes of a reply, of which there are none where there is no reply
 abbrev pub reply_bytes : Option Bytes → Bytes

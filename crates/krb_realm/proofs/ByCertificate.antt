@@ -24,7 +24,7 @@ use Rattle.krb_client.specs.Client.{ClientRecord}
 use Rattle.krb_client.specs.declared.refusal.TakeRefusal.{TakeRefusal}
 use Rattle.krb_client.specs.declared.refusal.TakeRefusal.TheVariants.{NotTrusted}
 use Rattle.krb_service.specs.Service.{ServiceRecord}
-use Rattle.krb_logins.specs.Authenticated.{IsAgreedKey, IsAuthenticated, first_asked, first_body}
+use Rattle.krb_logins.specs.Authenticated.{IsAgreedKey, IsAuthenticated, as_body_of_login, first_asked}
 use Rattle.krb_logins.specs.Honest.{AreEnough, AreParties, IsGranting, common_skew}
 use Rattle.krb_logins.specs.Laws.{IsMet}
 use Rattle.krb_logins.specs.Parties.{LoginRecord, RealmRecord, RememberedRecord, call_at}
@@ -73,7 +73,7 @@ module _ (client : ClientRecord) (certificate : Bytes) (anchor : AnchorRecord) (
   account = by.honest.client.account
 
   abbrev body : KdcReqBody
-  body = first_body client login
+  body = as_body_of_login client login
 
   abbrev judged : PkinitCallRecord
   judged = pkinit_call call client.components body

@@ -15,7 +15,7 @@ use Rattle.krb_client.specs.declared.refusal.AskRefusal.{AskRefusal}
 use Rattle.krb_client.specs.declared.refusal.TakeRefusal.{TakeRefusal}
 use Rattle.krb_logins.specs.LoginRun.{AsExchange, Exchanges, TgsExchange, ended, followed}
 use Rattle.krb_logins.specs.Parties.{LoginRecord, RealmRecord, call_at}
-use Rattle.krb_logins.specs.Steps.{IsAnswered, IsAsAsked, IsTgsAsked}
+use Rattle.krb_logins.specs.Steps.{IsAsAsked, IsKdcAnswered, IsTgsAsked}
 use Rattle.krb_logins.specs.declared.refusal.LoginRefusal.{LoginRefusal}
 use Rattle.krb_logins.specs.declared.refusal.LoginRefusal.TheVariants.{Answered, Asked, Taken}
 use Rattle.krb_logins.specs.ApExchanges.{IsStep, Made, sent_as}
@@ -31,18 +31,18 @@ module _ {A : Type 0} (asks : Result (Bytes × A) AskRefusal → Type 0) (call :
   abbrev Exchange : Type 0
   Exchange =
       followed asks Asked (λ sent.
-      followed (IsAnswered call rows sent.0) Answered (λ reply.
+      followed (IsKdcAnswered call rows sent.0) Answered (λ reply.
       followed (IsTaken (takes sent.1 reply)) Taken ended)) result
 
   unasked : (refusal : LoginRefusal) → IsStep sent_as asks Asked (Err refusal) → result ≡ Err refusal → Exchange
   unasked refusal x same = inr (x.0, x.1, same ∙ ap Err x.2)
 
   module _ (sent : Made × A) (lent : Bytes) (asked : IsStep sent_as asks Asked (Ok sent)) (is_sent : lent ≡ sent.0.items) where
-    unanswered : (refusal : LoginRefusal) → IsStep (λ (reply : Made). reply.items) (IsAnswered call rows lent) Answered (Err refusal) → result ≡ Err refusal → Exchange
+    unanswered : (refusal : LoginRefusal) → IsStep (λ (reply : Made). reply.items) (IsKdcAnswered call rows lent) Answered (Err refusal) → result ≡ Err refusal → Exchange
     unanswered refusal x same =
-        inl ((sent.0.items, sent.1), asked, inr (x.0, subst (λ bytes. IsAnswered call rows bytes (Err x.0)) is_sent x.1, same ∙ ap Err x.2))
+        inl ((sent.0.items, sent.1), asked, inr (x.0, subst (λ bytes. IsKdcAnswered call rows bytes (Err x.0)) is_sent x.1, same ∙ ap Err x.2))
 
-    replied : (reply : Made) (shown : Bytes) → IsStep (λ (reply : Made). reply.items) (IsAnswered call rows lent) Answered (Ok reply) → shown ≡ reply.items
+    replied : (reply : Made) (shown : Bytes) → IsStep (λ (reply : Made). reply.items) (IsKdcAnswered call rows lent) Answered (Ok reply) → shown ≡ reply.items
         → IsStep (λ credential. credential) (IsTaken (takes sent.1 shown)) Taken result → Exchange
     replied reply shown x is_shown y =
         inl (
@@ -50,7 +50,7 @@ module _ {A : Type 0} (asks : Result (Bytes × A) AskRefusal → Type 0) (call :
           asked,
           inl (
             reply.items,
-            subst (λ bytes. IsAnswered call rows bytes (Ok reply.items)) is_sent x,
+            subst (λ bytes. IsKdcAnswered call rows bytes (Ok reply.items)) is_sent x,
             step_ended (IsTaken (takes sent.1 reply.items)) Taken result (subst (λ bytes. IsStep (λ credential. credential) (IsTaken (takes sent.1 bytes)) Taken result) is_shown y),
           ),
         )

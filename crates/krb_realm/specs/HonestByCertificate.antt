@@ -5,7 +5,7 @@ use Rattle.krb_messages.specs.TicketGranting.{krbtgt_of}
 use Rattle.krb_client.specs.Asked.{agreement_part}
 use Rattle.krb_client.specs.Client.{ClientRecord}
 use Rattle.krb_service.specs.Service.{ServiceRecord}
-use Rattle.krb_logins.specs.Authenticated.{first_body}
+use Rattle.krb_logins.specs.Authenticated.{as_body_of_login}
 use Rattle.krb_logins.specs.Honest.{IsHonestLogin}
 use Rattle.krb_logins.specs.Parties.{LoginRecord, RealmRecord, RememberedRecord}
 use Rattle.x509_keys.specs.KeyFunctions.{KeysRecord}
@@ -35,6 +35,6 @@ pub record IsHonestByCertificate (client : ClientRecord) (certificate : Bytes) (
   pub own : Bytes
   pub has_own : trust.certificate ≡ Some own
   pub client_trusted : IsTrusted client_keys realm_keys (client_under realm_anchor client realm login) certificate
-      (IsPackText (first_body client login) login.client_as agreeing.client_element)
+      (IsPackText (as_body_of_login client login) login.client_as agreeing.client_element)
   pub realm_trusted : IsTrusted realm_keys client_keys (realm_under anchor client login) own
-      (IsKeyInfoText agreeing.realm_key.subject_public_key (first_body client login).nonce.0)
+      (IsKeyInfoText agreeing.realm_key.subject_public_key (as_body_of_login client login).nonce.0)

@@ -14,7 +14,7 @@ use Rattle.krb_client.specs.Means.{MeansRecord}
 use Rattle.krb_client.specs.Refusals.{IsTaken}
 use Rattle.krb_client.specs.TgsReply.{takes_tgs_reply}
 use Rattle.krb_logins.specs.Parties.{LoginRecord, RealmRecord}
-use Rattle.krb_logins.specs.Steps.{IsAnswered, IsAsAsked, IsTgsAsked}
+use Rattle.krb_logins.specs.Steps.{IsAsAsked, IsKdcAnswered, IsTgsAsked}
 use Rattle.krb_logins.specs.declared.refusal.LoginRefusal.{LoginRefusal}
 use Rattle.krb_logins.specs.declared.refusal.LoginRefusal.TheVariants.{Answered, Asked, Taken}
 use Rattle.krb_logins.specs.ApExchanges.{IsStep, Made, sent_as}
@@ -38,7 +38,7 @@ realm_rows realm keys = pkinit_rows realm.trust keys
 
 -- what the realm replies to a request, or why the login ends there
 unfoldable pub Answer : CallRecord → PkinitRows → Bytes → Result Made LoginRefusal → Type 0
-Answer call rows request = IsStep (λ reply. reply.items) (IsAnswered call rows request) Answered
+Answer call rows request = IsStep (λ reply. reply.items) (IsKdcAnswered call rows request) Answered
 
 -- the credential that the client takes from the AS reply, or why the login ends there (RFC 4120, section 3.1.5)
 unfoldable pub AsTake : ClientRecord → MeansRecord → AsAskedRecord → Bytes → Result CredentialRecord LoginRefusal → Type 0

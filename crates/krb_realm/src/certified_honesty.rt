@@ -1,7 +1,7 @@
 //! Whether a login by certificate is honest: the premise of its law, judged by what the parties hold.
 ghost use Rattle.std.specs.Prelude.{IsTrue};
 ghost use Rattle.krb_messages.specs.RandomBytes.{AreEnoughForRequest};
-ghost use Rattle.krb_logins.specs.Authenticated.{first_body};
+ghost use Rattle.krb_logins.specs.Authenticated.{as_body_of_login};
 ghost use Rattle.krb_logins.specs.Input.{held_by, login_of, realm_of};
 ghost use Rattle.krb_logins.specs.Parties.{call_at};
 ghost use Rattle.krb_kdc_exchanges.specs.Call.{pkinit_call};
@@ -54,7 +54,7 @@ fn has_honest_exchange<C: KeyFunctions, R: KeyFunctions>(
 ) -> bool
     requires { AreEnoughForRequest input.now.words_as.now }
     ensures { IsTrue result → IsHonestExchange (C.functions own.now.keys.now) own.now.certificate.now (trust_of pkinit.now.anchor pkinit.now.certificate) (R.functions pkinit.now.keys.now)
-        (pkinit_call (call_at (realm_of realm.now) input.now.moments.realm_as input.now.realm_words_as.now) client.now.components (first_body client.now (login_of input.now)))
+        (pkinit_call (call_at (realm_of realm.now) input.now.moments.realm_as input.now.realm_words_as.now) client.now.components (as_body_of_login client.now (login_of input.now)))
         (asked_at client.now own.now.anchor.now (nonce_of input.now.words_as.now) input.now.moments.client_as input.now.words_as.now) }
 {
     let Ok(granting) = granting_service(alloc, client.realm()) else {

@@ -286,7 +286,7 @@ fn ask_tgs(
 }
 
 // The realm answers an AS or TGS request.
-#[tactic(auto, unfolding(crate::specs::Logins::Answer, krb_logins::specs::Steps::IsAnswered))]
+#[tactic(auto, unfolding(crate::specs::Logins::Answer, krb_logins::specs::Steps::IsKdcAnswered))]
 fn answer<R: KeyFunctions>(
     alloc: Global,
     realm: &Realm,
