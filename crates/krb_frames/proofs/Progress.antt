@@ -8,7 +8,7 @@ use Rattle.krb_frames.specs.declared.fault.ServeFault.{ServeFault}
 use Rattle.krb_frames.specs.declared.fault.ServeFault.TheVariants.{Truncated, FrameTooLong, NoRequest, Read, Write, NoWords, NoMoment, ReplyTooLong, Memory, Accounts}
 use Rattle.krb_frames.specs.Frames.{Ended, Whole, front_of, framed}
 use Rattle.krb_frames.specs.Serving.{Left, at, Run, Step, Asks, TakesMoment, IsReply, IsServed, StopsBy, IsReplyFront, Draws}
-use Rattle.krb_frames.specs.Steps.{IsFrontFault, IsStepFault, IsAnswered}
+use Rattle.krb_frames.specs.Steps.{IsFrontFault, IsStepFault, IsReplyWritten}
 
 -- serving ended so
 abbrev Failed : ServeFault → Result ℕ ServeFault
@@ -146,7 +146,7 @@ module _ (replies : List ℕ → ℕ → List ℕ → Option (List ℕ) → Type
 
           -- one frame more was answered
           pub goes : (new_words new : Option (List ℕ)) (total : ℕ) → total ≡ min (answered + 1) (2 ^ 64 - 1)
-              → IsAnswered replies message moment p.more written new new_words → Progress new_stream new_words new next total
+              → IsReplyWritten replies message moment p.more written new new_words → Progress new_stream new_words new next total
           goes new_words new total one_more step = record {
             taken = p.taken ++ moment ∷ [];
             done = p.done ++ step.0 ∷ [];

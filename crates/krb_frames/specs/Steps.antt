@@ -102,8 +102,8 @@ IsWrittenPart frame old new _ = ⊥
 
 module _ (replies : List ℕ → Micros → List ℕ → Option (List ℕ) → Type 0) where
   -- a message was answered: its reply was written in a frame, and 128 random bytes were taken
-  abbrev pub IsAnswered : List ℕ → Micros → List ℕ → Option (List ℕ) → Option (List ℕ) → Option (List ℕ) → Type 0
-  IsAnswered message moment words old new left = (reply : List ℕ) × IsReply replies message moment words (Some reply) × (length reply ≤ frame_limit)
+  abbrev pub IsReplyWritten : List ℕ → Micros → List ℕ → Option (List ℕ) → Option (List ℕ) → Option (List ℕ) → Type 0
+  IsReplyWritten message moment words old new left = (reply : List ℕ) × IsReply replies message moment words (Some reply) × (length reply ≤ frame_limit)
       × Appends old new (framed reply) × (left ≡ Some (drop words_needed words))
 
 module _ (replies : List ℕ → Micros → List ℕ → Option (List ℕ) → Type 0) (wants : List ℕ → Type 0) where

@@ -4,7 +4,7 @@ ghost use Rattle.std.specs.Io.KnownBytes.{Appends};
 ghost use Rattle.krb_frames.specs.Frames.{front_of, framed, frame_limit, words_needed};
 ghost use Rattle.krb_frames.specs.Frames.Front.{Ended, Whole};
 ghost use Rattle.krb_frames.specs.Serving.{IsReply, WhereKnown};
-ghost use Rattle.krb_frames.specs.Steps.{IsFilled, IsTaken, IsBroken, IsMessageFault, IsMessageStop, IsWordsFault, IsWordsStop, IsAnswerFault, IsAnswered, IsFrontFault, IsReadFault, IsRefusal, IsStepFault, IsWrittenPart, after_read_fault, after_write_fault};
+ghost use Rattle.krb_frames.specs.Steps.{IsFilled, IsTaken, IsBroken, IsMessageFault, IsMessageStop, IsWordsFault, IsWordsStop, IsAnswerFault, IsReplyWritten, IsFrontFault, IsReadFault, IsRefusal, IsStepFault, IsWrittenPart, after_read_fault, after_write_fault};
 
 use crate::{AnswerRefusal, Responder, ServeFault};
 use byte_streams::{Sink, Source, WholeFault, read_full, write_whole};
@@ -140,7 +140,7 @@ pub(crate) fn answer_frame<A: Responder, K: Source, W: Sink>(
     writer: &mut W,
 ) -> Result<(), ServeFault>
     ensures step { WhereKnown (K.left words_reader.old) (λ words. MatchResult result
-        (λ _. IsAnswered (A.replies responder.now) message.now moment words (W.written writer.old) (W.written writer.new) (K.left words_reader.new))
+        (λ _. IsReplyWritten (A.replies responder.now) message.now moment words (W.written writer.old) (W.written writer.new) (K.left words_reader.new))
         (IsStepFault (A.replies responder.now) (A.may_want_memory responder.now) message.now moment words (W.written writer.old) (W.written writer.new) (K.left words_reader.new))) }
     ensures faults { IfErr result IsAnswerFault }
     ensures refusals { IfErr result (IsRefusal (A.replies responder.now) (A.may_lack_accounts responder.now message.now)) }
