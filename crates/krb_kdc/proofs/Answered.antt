@@ -23,7 +23,7 @@ use Rattle.krb_kdc.specs.Calls.{call_with}
 use Rattle.krb_kdc.specs.Few.{Knows}
 use Rattle.krb_kdc.specs.Involved.{KnowsFurther, KnowsNamed}
 use Rattle.krb_kdc.specs.Sources.{RepliesBy, as_reply_by}
-use Rattle.krb_kdc.specs.Tickets.{IsTicketOf}
+use Rattle.krb_kdc.specs.Tickets.{IsTgsReqTicket}
 
 named_account : (all : Look) (few : AccountMap) (name : Option PrincipalName) → KnowsNamed all few name → account_of (look_in few) name ≡ account_of all name
 named_account all few None knows = refl
@@ -52,7 +52,7 @@ module _ (given : LookupCall) (all : Look) (few : AccountMap) where
       let own : Knows all few (components name) = subst (KnowsNamed all few) named knows.service in
       ap (look_in few) is ∙ own ∙ sym (ap all is)
   knows_further asked knows these (inr (inr (ap_req, part, by, is))) =
-      let ticket : IsTicketOf few (krbtgt_of given.realm.now) (padata_in asked) part =
+      let ticket : IsTgsReqTicket few (krbtgt_of given.realm.now) (padata_in asked) part =
       record { value = by.value; ap_req = ap_req; account = by.granting; first = by.first; read = by.read; has = by.account; opens = by.opens } in
       ap (look_in few) is ∙ knows.client part ticket ∙ sym (ap all is)
 

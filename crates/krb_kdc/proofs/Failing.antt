@@ -19,7 +19,7 @@ use Rattle.krb_kdc.specs.Failing.{FailsAs, FailsClient, FailsFor, FailsNamed, Fa
 use Rattle.krb_kdc.specs.Faults.{MayFail}
 use Rattle.krb_kdc.specs.Few.{IsFetched, Knows}
 use Rattle.krb_kdc.specs.Sources.{AsksByCertificate, IsByCertificate}
-use Rattle.krb_kdc.specs.Tickets.{IsTicketOf}
+use Rattle.krb_kdc.specs.Tickets.{IsTgsReqTicket}
 use Rattle.krb_kdc.specs.declared.call.LookupCall.{LookupCall}
 use Rattle.krb_kdc.specs.declared.fault.LookupFault.{LookupFault}
 use Rattle.krb_kdc.proofs.Fetched.{none_own}
@@ -42,9 +42,9 @@ as_service_failed fails request name fault is = widened (FailsNamed fails name) 
 
 -- the account of the client of a ticket
 pub ticket_failed : (fails : List Bytes → LookupFault → Type 0) (few : AccountMap) (granting name : List Bytes) (padata given : List PaData) (part : EncTicketPartInner) (fault : LookupFault)
-    → given ≡ padata → name ≡ components part.cname.0 → IsTicketOf few granting given part → MayFail (fails name) fault → MayFail (FailsClient fails few granting padata) fault
+    → given ≡ padata → name ≡ components part.cname.0 → IsTgsReqTicket few granting given part → MayFail (fails name) fault → MayFail (FailsClient fails few granting padata) fault
 ticket_failed fails few granting name padata given part fault same is ticket =
-    widened (fails name) (FailsClient fails few granting padata) (λ own x. (part, subst (λ p. IsTicketOf few granting p part) same ticket, subst (λ n. fails n own) is x)) fault
+    widened (fails name) (FailsClient fails few granting padata) (λ own x. (part, subst (λ p. IsTgsReqTicket few granting p part) same ticket, subst (λ n. fails n own) is x)) fault
 
 -- of a TGS request: the ticket-granting service, the ticket's client, and the service
 module _ (holds : Look → Type 0) (fails : List Bytes → LookupFault → Type 0) (call : LookupCall) (request : KdcReq) where
@@ -52,7 +52,7 @@ module _ (holds : Look → Type 0) (fails : List Bytes → LookupFault → Type 
   granting_failed name fault is = widened (fails name) (FailsTgs holds fails call request) (λ own x. (name, (λ all known. inl is), x)) fault
 
   by_ticket : (few : AccountMap) (all : Look) (part : EncTicketPartInner) → Knows all few (krbtgt_of call.realm.now)
-      → IsTicketOf few (krbtgt_of call.realm.now) (padata_in request) part → IsInvolvedFurther (call_with call all) request (components part.cname.0)
+      → IsTgsReqTicket few (krbtgt_of call.realm.now) (padata_in request) part → IsInvolvedFurther (call_with call all) request (components part.cname.0)
   by_ticket few all part knows ticket =
       inr (inr (
         ticket.ap_req,
@@ -72,7 +72,7 @@ module _ (holds : Look → Type 0) (fails : List Bytes → LookupFault → Type 
       → FailsClient fails few granting (padata_in request) own → FailsTgs holds fails call request own
   client_more few granting own same knows (part, ticket, x) = (
     components part.cname.0,
-    (λ all known. by_ticket few all part (knows all known) (subst (λ n. IsTicketOf few n (padata_in request) part) same ticket)),
+    (λ all known. by_ticket few all part (knows all known) (subst (λ n. IsTgsReqTicket few n (padata_in request) part) same ticket)),
     x,
   )
 

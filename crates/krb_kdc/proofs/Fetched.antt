@@ -18,7 +18,7 @@ use Rattle.krb_messages.specs.declared.messages.kdc_req.KdcReq.{KdcReq}
 use Rattle.krb_messages.specs.declared.data_types.enc_ticket_part.EncTicketPartInner.{EncTicketPartInner}
 use Rattle.krb_messages.specs.declared.data_types.pa_data.PaData.{PaData}
 use Rattle.krb_kdc.specs.Involved.{IsNamedFetched, KnowsFurther, KnowsNamed}
-use Rattle.krb_kdc.specs.Tickets.{IsClientFetched, IsTicketOf}
+use Rattle.krb_kdc.specs.Tickets.{IsClientFetched, IsTgsReqTicket}
 
 -- where a call succeeded, what follows from its success
 pub on_ok : {T E : Type 0} (result : Result T E) (P Q : Type 0) → (P → Q) → OnOk result P → OnOk result Q
@@ -106,10 +106,10 @@ module _ (all : Look) (none first second third : AccountMap) (tgs : List Bytes) 
   knows_tgs : Knows all third tgs
   knows_tgs = three.kept tgs (two.kept tgs (one.known (none_own all none is)))
 
-  knows_client : (part : EncTicketPartInner) → IsTicketOf third tgs (padata_in request) part → Knows all third (components part.cname.0)
+  knows_client : (part : EncTicketPartInner) → IsTgsReqTicket third tgs (padata_in request) part → Knows all third (components part.cname.0)
   knows_client part ticket =
       let own = none_own all none is in
-      let early : IsTicketOf first tgs (padata_in request) part = record {
+      let early : IsTgsReqTicket first tgs (padata_in request) part = record {
         value = ticket.value;
         ap_req = ticket.ap_req;
         account = ticket.account;
@@ -137,7 +137,7 @@ further_by all none first second third a b tgs given request is same_a same_b sa
 
 -- the ticket that a TGS request presents, by the accounts as they are in the end
 module _ (few other : AccountMap) (tgs : List Bytes) (padata : List PaData) (same : look_in few tgs ≡ look_in other tgs) where
-  moved : (part : EncTicketPartInner) → IsTicketOf few tgs padata part → IsTicketOf other tgs padata part
+  moved : (part : EncTicketPartInner) → IsTgsReqTicket few tgs padata part → IsTgsReqTicket other tgs padata part
   moved part ticket = record {
     value = ticket.value;
     ap_req = ticket.ap_req;
@@ -149,14 +149,14 @@ module _ (few other : AccountMap) (tgs : List Bytes) (padata : List PaData) (sam
   }
 
 found_moved : (few other : AccountMap) (tgs : List Bytes) (padata : List PaData) → look_in few tgs ≡ look_in other tgs → (ticket : Option EncTicketPartInner)
-    → IsFound (IsTicketOf few tgs padata) ticket → IsFound (IsTicketOf other tgs padata) ticket
+    → IsFound (IsTgsReqTicket few tgs padata) ticket → IsFound (IsTgsReqTicket other tgs padata) ticket
 found_moved few other tgs padata same None found = λ part ticket. found part (moved other few tgs padata (sym same) part ticket)
 found_moved few other tgs padata same (Some part) found = moved few other tgs padata same part found
 
 pub ticket_by : (all : Look) (none first second third : AccountMap) (a b tgs : List Bytes) (given : Option PrincipalName) (padata : List PaData) (ticket : Option EncTicketPartInner)
     → none ≡ empty → a ≡ tgs → b ≡ tgs → IsFetched all a none first → IsClientFetched all b padata first second → IsNamedFetched all given second third
-    → IsFound (IsTicketOf first b padata) ticket → IsFound (IsTicketOf third tgs padata) ticket
+    → IsFound (IsTgsReqTicket first b padata) ticket → IsFound (IsTgsReqTicket third tgs padata) ticket
 ticket_by all none first second third a b tgs given padata ticket is same_a same_b one two three found =
     let early : Knows all first tgs = subst (Knows all first) same_a (one.known (none_own all none is)) in
     let late : Knows all third tgs = three.kept tgs (two.kept tgs early) in
-    found_moved first third tgs padata (early ∙ sym late) ticket (subst (λ n. IsFound (IsTicketOf first n padata) ticket) same_b found)
+    found_moved first third tgs padata (early ∙ sym late) ticket (subst (λ n. IsFound (IsTgsReqTicket first n padata) ticket) same_b found)

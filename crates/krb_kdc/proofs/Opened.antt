@@ -15,7 +15,7 @@ use Rattle.krb_messages.specs.declared.data_types.encrypted_data.EncryptedData.{
 use Rattle.krb_messages.specs.declared.data_types.pa_data.PaData.{PaData}
 use Rattle.krb_messages.specs.Names.{components}
 use Rattle.krb_kdc.specs.Few.{IsFetched, Knows}
-use Rattle.krb_kdc.specs.Tickets.{IsClientFetched, IsTicketOf}
+use Rattle.krb_kdc.specs.Tickets.{IsClientFetched, IsTgsReqTicket}
 
 opened : (suite : CipherSuite) (key : List ℕ) (encrypted : EncryptedData) (part : EncTicketPartInner) → (opened_part suite key encrypted).gives (Ok part) → IsTicketPart suite key encrypted part
 opened suite key encrypted part (inl (own, is, e)) = let same : own ≡ part = cc (e) in subst (IsTicketPart suite key encrypted) same is
@@ -40,7 +40,7 @@ module _ (key : KeyRecord) (account : AccountRecord) (given wanted : EncryptedDa
 -- the ticket that padata carry
 module _ (few : AccountMap) (granting : List (List ℕ)) (padata : List PaData) (account : AccountRecord) (value : List ℕ) (ap_req : ApReqInner)
     (has : look_in few granting ≡ Some account) (first : first_of 1 padata ≡ Some value) (read : IsApReq value ap_req) where
-  same_part : (part : EncTicketPartInner) → IsTicketOf few granting padata part → IsTicketPart account.suite account.key (enc_part_in ap_req) part
+  same_part : (part : EncTicketPartInner) → IsTgsReqTicket few granting padata part → IsTicketPart account.suite account.key (enc_part_in ap_req) part
   same_part part ticket =
       let own : ticket.account ≡ account = cc (ticket.has, has) in
       let carried : ticket.value ≡ value = cc (ticket.first, first) in
@@ -49,31 +49,31 @@ module _ (few : AccountMap) (granting : List (List ℕ)) (padata : List PaData) 
       (subst (λ r. IsTicketPart ticket.account.suite ticket.account.key (enc_part_in r) part) same ticket.opens)
 
   pub ticket_found : {E : Type 0} (result : Result (Option EncTicketPartInner) E) → IfOk result (IsFound (IsTicketPart account.suite account.key (enc_part_in ap_req)))
-      → IfOk result (IsFound (IsTicketOf few granting padata))
+      → IfOk result (IsFound (IsTgsReqTicket few granting padata))
   ticket_found (Ok (Some part)) opens = record { value = value; ap_req = ap_req; account = account; first = first; read = read; has = has; opens = opens }
   ticket_found (Ok None) none = λ part ticket. none part (same_part part ticket)
   ticket_found (Err e) opens = tt
 
-sole_ticket_of : (few : AccountMap) (granting : List (List ℕ)) (padata : List PaData) (a b : EncTicketPartInner) → IsTicketOf few granting padata a → IsTicketOf few granting padata b → a ≡ b
-sole_ticket_of few granting padata a b x y =
+sole_tgs_req_ticket : (few : AccountMap) (granting : List (List ℕ)) (padata : List PaData) (a b : EncTicketPartInner) → IsTgsReqTicket few granting padata a → IsTgsReqTicket few granting padata b → a ≡ b
+sole_tgs_req_ticket few granting padata a b x y =
     sole_ticket_part y.account.suite y.account.key (enc_part_in y.ap_req) a b (same_part few granting padata y.account y.value y.ap_req y.has y.first y.read a x) y.opens
 
 -- no ticket, and one whose client's account was looked up
 pub no_ticket : (all : Look) (granting : List (List ℕ)) (padata given : List PaData) (few : AccountMap) → given ≡ padata
-    → ((part : EncTicketPartInner) → IsTicketOf few granting given part → ⊥) → IsClientFetched all granting padata few few
+    → ((part : EncTicketPartInner) → IsTgsReqTicket few granting given part → ⊥) → IsClientFetched all granting padata few few
 no_ticket all granting padata given few same none = record {
   own = λ own. own;
-  known = λ own part ticket. absurd (none part (subst (λ p. IsTicketOf few granting p part) (sym same) ticket));
+  known = λ own part ticket. absurd (none part (subst (λ p. IsTgsReqTicket few granting p part) (sym same) ticket));
   kept = λ other knows. knows;
 }
 
 pub ticket_fetched : (all : Look) (granting name : List (List ℕ)) (padata given : List PaData) (part : EncTicketPartInner) (old new : AccountMap) → given ≡ padata
-    → name ≡ components part.cname.0 → IsTicketOf old granting given part → IsFetched all name old new → IsClientFetched all granting padata old new
+    → name ≡ components part.cname.0 → IsTgsReqTicket old granting given part → IsFetched all name old new → IsClientFetched all granting padata old new
 ticket_fetched all granting name padata given part old new same is ticket fetched = record {
   own = fetched.own;
   known = λ own other found.
       subst (λ (p : EncTicketPartInner). Knows all new (components p.cname.0))
-      (sole_ticket_of old granting padata part other (subst (λ p. IsTicketOf old granting p part) same ticket) found)
+      (sole_tgs_req_ticket old granting padata part other (subst (λ p. IsTgsReqTicket old granting p part) same ticket) found)
       (subst (Knows all new) is (fetched.known own));
   kept = fetched.kept;
 }

@@ -12,7 +12,7 @@ use Rattle.krb_messages.specs.declared.data_types.pa_data.PaData.{PaData}
 use Rattle.krb_messages.specs.declared.data_types.principal_name.PrincipalName.{PrincipalName}
 use Rattle.krb_messages.specs.declared.messages.kdc_req.KdcReq.{KdcReq}
 use Rattle.krb_kdc.specs.Calls.{call_with}
-use Rattle.krb_kdc.specs.Tickets.{IsTicketOf}
+use Rattle.krb_kdc.specs.Tickets.{IsTgsReqTicket}
 use Rattle.krb_kdc.specs.declared.call.LookupCall.{LookupCall}
 use Rattle.krb_kdc.specs.declared.fault.LookupFault.{LookupFault}
 
@@ -34,7 +34,7 @@ FailsAs fails request fault = FailsNamed fails (client_of (body_of request)) fau
 
 -- By this fault the account of the client may fail whose ticket the padata have.
 abbrev pub FailsClient : (List Bytes → LookupFault → Type 0) → AccountMap → List Bytes → List PaData → LookupFault → Type 0
-FailsClient fails few granting padata fault = (part : EncTicketPartInner) × IsTicketOf few granting padata part × fails (components part.cname.0) fault
+FailsClient fails few granting padata fault = (part : EncTicketPartInner) × IsTgsReqTicket few granting padata part × fails (components part.cname.0) fault
 
 -- By this fault an account may fail that a TGS request involves, whatever accounts may be held.
 abbrev pub FailsTgs : (Look → Type 0) → (List Bytes → LookupFault → Type 0) → LookupCall → KdcReq → LookupFault → Type 0

@@ -9,7 +9,7 @@ use Rattle.krb_messages.specs.Names.{components}
 use Rattle.krb_messages.specs.declared.data_types.enc_ticket_part.EncTicketPartInner.{EncTicketPartInner}
 use Rattle.krb_messages.specs.declared.data_types.principal_name.PrincipalName.{PrincipalName}
 use Rattle.krb_kdc.specs.Few.{AreOf, Knows}
-use Rattle.krb_kdc.specs.Tickets.{IsTicketOf}
+use Rattle.krb_kdc.specs.Tickets.{IsTgsReqTicket}
 
 -- The few have the account of the name that is given, or it has none.
 abbrev pub KnowsNamed : Look → AccountMap → Option PrincipalName → Type 0
@@ -25,5 +25,5 @@ pub record IsNamedFetched (all : Look) (name : Option PrincipalName) (old new : 
 -- The few have what a TGS request involves: the accounts of the ticket-granting service, of the ticket's client and of the service.
 pub record KnowsFurther (all : Look) (few : AccountMap) (tgs : List Bytes) (request : KdcReq) : Type 0 where
   pub granting : Knows all few tgs
-  pub client : (part : EncTicketPartInner) → IsTicketOf few tgs (padata_in request) part → Knows all few (components part.cname.0)
+  pub client : (part : EncTicketPartInner) → IsTgsReqTicket few tgs (padata_in request) part → Knows all few (components part.cname.0)
   pub service : KnowsNamed all few (service_of (body_of request))

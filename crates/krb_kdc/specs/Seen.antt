@@ -10,7 +10,7 @@ use Rattle.krb_messages.specs.Messages.{IsAsReq, IsTgsReq}
 use Rattle.krb_messages.specs.TicketGranting.{krbtgt_of}
 use Rattle.krb_kdc.specs.Few.{Knows}
 use Rattle.krb_kdc.specs.Involved.{KnowsNamed}
-use Rattle.krb_kdc.specs.Tickets.{IsTicketOf}
+use Rattle.krb_kdc.specs.Tickets.{IsTgsReqTicket}
 use Rattle.krb_kdc.specs.declared.seen.Seen.{Seen}
 use Rattle.krb_kdc.specs.declared.seen.SeenRequest.{SeenRequest}
 use Rattle.krb_kdc.specs.declared.seen.SeenRequest.TheVariants.{As, Tgs}
@@ -24,7 +24,7 @@ IsRequestOf message (Tgs request ticket) = IsTgsReq message request.now
 abbrev pub HasAccounts : Look → Bytes → AccountMap → SeenRequest → Type 0
 HasAccounts all realm few (As request) = KnowsNamed all few (client_of (body_of request.now))
 HasAccounts all realm few (Tgs request ticket) =
-    Knows all few (krbtgt_of realm) × IsFound (IsTicketOf few (krbtgt_of realm) (padata_in request.now)) (option_copied ticket)
+    Knows all few (krbtgt_of realm) × IsFound (IsTgsReqTicket few (krbtgt_of realm) (padata_in request.now)) (option_copied ticket)
 
 -- What was seen is of this message and of this reply.
 pub record IsSeen (message reply : Bytes) (seen : Seen) : Type 0 where

@@ -15,7 +15,7 @@ use Rattle.krb_messages.specs.declared.data_types.pa_data.PaData.{PaData}
 use Rattle.krb_kdc.specs.Few.{AreOf, Knows}
 
 -- The AP request of the first padata of its type has this ticket's part, sealed under the key of this name's account.
-pub record IsTicketOf (few : AccountMap) (granting : List Bytes) (padata : List PaData) (part : EncTicketPartInner) : Type 0 where
+pub record IsTgsReqTicket (few : AccountMap) (granting : List Bytes) (padata : List PaData) (part : EncTicketPartInner) : Type 0 where
   pub value : Bytes
   pub ap_req : ApReqInner
   pub account : AccountRecord
@@ -27,5 +27,5 @@ pub record IsTicketOf (few : AccountMap) (granting : List Bytes) (padata : List 
 -- The account of the ticket's client was looked up, if there is a ticket, and what was known stays known.
 pub record IsClientFetched (all : Look) (granting : List Bytes) (padata : List PaData) (old new : AccountMap) : Type 0 where
   pub own : AreOf all old → AreOf all new
-  pub known : AreOf all old → (part : EncTicketPartInner) → IsTicketOf old granting padata part → Knows all new (components part.cname.0)
+  pub known : AreOf all old → (part : EncTicketPartInner) → IsTgsReqTicket old granting padata part → Knows all new (components part.cname.0)
   pub kept : (other : List Bytes) → Knows all old other → Knows all new other

@@ -17,7 +17,7 @@ ghost use Rattle.krb_kdc.specs.Faults.{MayFail};
 ghost use Rattle.krb_kdc.specs.Involved.{IsNamedFetched, KnowsFurther, KnowsNamed};
 ghost use Rattle.krb_kdc.specs.Seen.{IsTold};
 ghost use Rattle.krb_kdc.specs.Sources.{AsksByCertificate, IsByCertificate, RepliesBy, as_reply_by};
-ghost use Rattle.krb_kdc.specs.Tickets.{IsTicketOf};
+ghost use Rattle.krb_kdc.specs.Tickets.{IsTgsReqTicket};
 
 use crate::always::Always;
 use crate::begins::begins_request;
@@ -228,7 +228,7 @@ fn further_accounts<L: Lookup>(
 ) -> Result<Further, LookupFault>
     ensures few { (all : Look) → L.holds lookup.now all → IfOk result (λ further. KnowsFurther all further.few (krbtgt_of call.now.realm.now) request.now) }
     ensures ticket { (all : Look) → L.holds lookup.now all
-        → IfOk result (λ further. IsFound (IsTicketOf further.few (krbtgt_of call.now.realm.now) (padata_in request.now)) further.ticket) }
+        → IfOk result (λ further. IsFound (IsTgsReqTicket further.few (krbtgt_of call.now.realm.now) (padata_in request.now)) further.ticket) }
     ensures fault { IfErr result (MayFail (FailsTgs (L.holds lookup.now) (L.may_fail lookup.now) call.now request.now)) }
 {
     let granting = krbtgt_of(alloc, call.realm)?;

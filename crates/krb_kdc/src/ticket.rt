@@ -7,7 +7,7 @@ ghost use Rattle.picky_asn1_der.specs.Found.{IsFound};
 ghost use Rattle.krb_messages.specs.Padata.{padata_in};
 ghost use Rattle.krb_kdc.specs.Failing.{FailsClient};
 ghost use Rattle.krb_kdc.specs.Faults.{MayFail};
-ghost use Rattle.krb_kdc.specs.Tickets.{IsClientFetched, IsTicketOf};
+ghost use Rattle.krb_kdc.specs.Tickets.{IsClientFetched, IsTgsReqTicket};
 
 use crate::fault::LookupFault;
 use crate::few::fetch;
@@ -30,7 +30,7 @@ pub(crate) fn fetch_client<L: Lookup>(
     request: &KdcReq,
 ) -> Result<Option<EncTicketPartInner>, LookupFault>
     ensures few { (all : Look) → L.holds lookup.now all → OnOk result (IsClientFetched all granting.now (padata_in request.now) few.old few.new) }
-    ensures ticket { IfOk result (IsFound (IsTicketOf few.old granting.now (padata_in request.now))) }
+    ensures ticket { IfOk result (IsFound (IsTgsReqTicket few.old granting.now (padata_in request.now))) }
     ensures fault { IfErr result (MayFail (FailsClient (L.may_fail lookup.now) few.old granting.now (padata_in request.now))) }
 {
     let Some(part) = part_by(alloc, few, granting, padata_in(request))? else {
@@ -52,7 +52,7 @@ fn part_by(
     granting: &[GeneralStringAsn1],
     padata: &[PaData],
 ) -> Result<Option<EncTicketPartInner>, AllocError>
-    ensures { IfOk result (IsFound (IsTicketOf few.now granting.now padata.now)) }
+    ensures { IfOk result (IsFound (IsTgsReqTicket few.now granting.now padata.now)) }
 {
     let Some(account) = few.get(granting) else {
         return Ok(None);

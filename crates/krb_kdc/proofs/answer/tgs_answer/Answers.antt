@@ -4,7 +4,7 @@ use Rattle.krb_realm_accounts.specs.Accounts.{look_in}
 use Rattle.krb_kdc_exchanges.specs.Call.{call_of}
 use Rattle.krb_messages.specs.Padata.{padata_in}
 use Rattle.krb_messages.specs.TicketGranting.{krbtgt_of}
-use Rattle.krb_kdc.specs.Tickets.{IsTicketOf}
+use Rattle.krb_kdc.specs.Tickets.{IsTgsReqTicket}
 use Rattle.krb_kdc.proofs.Answered.{tgs_by_few, tgs_replied}
 use Rattle.krb_kdc.proofs.Told.{told}
 use Rattle.krb_kdc.proofs.answer.tgs_answer.Goals as goal
@@ -20,7 +20,7 @@ returns-clause-told g c = λ message read.
     (record { request = read; outcome = c.in_ok-reply.ensures.outcome })
     (λ all known. (
       (c.in_ok-further.ensures.few all known).granting,
-      subst (λ t. IsFound (IsTicketOf c.in_ok-further.further.few (krbtgt_of c.args.call.now.realm.now) (padata_in c.args.request.now)) t) (sym c.as_ref-ticket.ensures.value)
+      subst (λ t. IsFound (IsTgsReqTicket c.in_ok-further.further.few (krbtgt_of c.args.call.now.realm.now) (padata_in c.args.request.now)) t) (sym c.as_ref-ticket.ensures.value)
           (c.in_ok-further.ensures.ticket all known),
     ))
 

@@ -1,6 +1,6 @@
 use Rattle.std.proofs.Common.{None, Some, subst}
 use Rattle.picky_asn1_der.specs.Found.{IsFound}
-use Rattle.krb_kdc.specs.Tickets.{IsTicketOf}
+use Rattle.krb_kdc.specs.Tickets.{IsTgsReqTicket}
 use Rattle.krb_messages.specs.Padata.{padata_in}
 use Rattle.krb_kdc.proofs.Failing.{ticket_failed}
 use Rattle.krb_kdc.proofs.Opened.{no_ticket, ticket_fetched}
@@ -12,7 +12,7 @@ returns-in_default-clause-few g c = λ all known.
 
 pub returns-in_default-clause-ticket : goal.returns-in_default-clause-ticket
 returns-in_default-clause-ticket g c =
-    subst (λ p. IsFound (IsTicketOf c.args.few.now c.args.granting.now p) None) c.padata_in.ensures (rw c.in_default.is at c.in_ok-part.ensures)
+    subst (λ p. IsFound (IsTgsReqTicket c.args.few.now c.args.granting.now p) None) c.padata_in.ensures (rw c.in_default.is at c.in_ok-part.ensures)
 
 pub returns-in-Ok-clause-few : goal.returns-in-Ok-clause-few
 returns-in-Ok-clause-few g c = λ all known.
@@ -21,7 +21,7 @@ returns-in-Ok-clause-few g c = λ all known.
 
 pub returns-in-Ok-clause-ticket : goal.returns-in-Ok-clause-ticket
 returns-in-Ok-clause-ticket g c =
-    subst (λ p. IsFound (IsTicketOf c.args.few.now c.args.granting.now p) (Some c.in-Some.part)) c.padata_in.ensures (rw c.in-Some.is at c.in_ok-part.ensures)
+    subst (λ p. IsFound (IsTgsReqTicket c.args.few.now c.args.granting.now p) (Some c.in-Some.part)) c.padata_in.ensures (rw c.in-Some.is at c.in_ok-part.ensures)
 
 pub returns-in-Err-clause-fault : goal.returns-in-Err-clause-fault
 returns-in-Err-clause-fault g c =
