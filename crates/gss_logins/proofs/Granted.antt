@@ -37,7 +37,7 @@ use Rattle.gss_initiator.specs.Initiating.{refusal_of}
 use Rattle.gss_initiator.specs.Requests.{IsContextAuthenticator}
 use Rattle.gss_logins.specs.Granted.{IsHonestGssLogin, gss_login_of}
 use Rattle.gss_logins.specs.GssLogins.{GssLogin, choice_of, clock_of, confounder_of}
-use Rattle.gss_logins.specs.Honest.{IsAsking, IsHonest, IsTicketOf, ticket_tree}
+use Rattle.gss_logins.specs.Honest.{HasServiceTicket, IsAsking, IsHonest, ticket_tree}
 use Rattle.gss_logins.proofs.Presented.{is_own, own_authenticator}
 
 module _ (client : ClientRecord) (realm : RealmRecord) (service : ServiceRecord) (terms : AcceptorTerms) (before : RememberedRecord) (login : LoginRecord) (initial : InitialChecksum) (words : Random)
@@ -83,7 +83,7 @@ module _ (client : ClientRecord) (realm : RealmRecord) (service : ServiceRecord)
       let made : SealsPart granted = seals_part service.entry grant confounder held.part sealed (whole_part grant realm_text names) in
       subst SealsPart (sym carried) made
 
-  ticket : IsTicketOf own
+  ticket : HasServiceTicket own
   unfolding ticket_part
   ticket = record {
     whole = whole;

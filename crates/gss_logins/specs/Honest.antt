@@ -39,7 +39,7 @@ pub record IsAsking (login : GssLogin) : Type 0 where
 
 -- the credential's ticket has an encoding, and its part is sealed under the service's key; the session key in the part is the
 -- credential's, and a key of its suite (RFC 4120, section 5.3)
-pub record IsTicketOf (login : GssLogin) : Type 0 where
+pub record HasServiceTicket (login : GssLogin) : Type 0 where
   pub whole : IsWhole (ticket_tree login.credential.ticket)
   pub part : EncTicketPartInner
   pub confounder : Bytes
@@ -57,7 +57,7 @@ pub record IsAnswering (terms : AcceptorTerms) (initial : InitialChecksum) (word
 -- its clock: names, times, kvno and clocks agree, and the authenticator is the first of its client and time (RFC 4120, section 3.2.3)
 pub record IsHonest (login : GssLogin) : Type 0 where
   pub asking : IsAsking login
-  pub ticket : IsTicketOf login
+  pub ticket : HasServiceTicket login
   pub answering : IsAnswering login.terms login.initial login.service_words
   pub window : IsWindow login.service.seen login.admitted
   pub admissible : (authenticator : AuthenticatorInner) → IsContextAuthenticator login.client login.credential login.initial login.client_at login.words authenticator
