@@ -36,10 +36,10 @@ asked_client (Tgs names) = shown_or_dash names.client
 asked_client Nothing = codes "-"
 
 -- the service that was asked for, or a dash
-abbrev pub service_text : Asked → List ℕ
-service_text (As names) = shown_or_dash names.service
-service_text (Tgs names) = shown_or_dash names.service
-service_text Nothing = codes "-"
+abbrev pub asked_service : Asked → List ℕ
+asked_service (As names) = shown_or_dash names.service
+asked_service (Tgs names) = shown_or_dash names.service
+asked_service Nothing = codes "-"
 
 -- the encryption types of the ticket and of the reply's part
 abbrev pub granted_text : GrantedTicket → List ℕ
@@ -88,5 +88,5 @@ means_part by reason = codes "by=" ++ by ++ reason_part reason
 -- An entry's text.
 abbrev pub entry_text : Entry → List ℕ
 entry_text entry =
-    exchange_text entry.asked ++ codes " " ++ asked_client entry.asked ++ codes " " ++ service_text entry.asked
+    exchange_text entry.asked ++ codes " " ++ asked_client entry.asked ++ codes " " ++ asked_service entry.asked
     ++ codes " " ++ answer_text entry.answer ++ codes " " ++ means_part (by_text entry.asked) entry.reason

@@ -1,7 +1,7 @@
 //! An entry of the log.
 ghost use Rattle.std.specs.Prelude.{◌≡◌, IfOk};
 ghost use Rattle.krb_log.specs.Entries.{IsEntryOf, IsRefusalEntry};
-ghost use Rattle.krb_log.specs.EntryText.{asked_client, by_text, exchange_text, means_text, refusal_text, service_text, shown_or_dash};
+ghost use Rattle.krb_log.specs.EntryText.{asked_client, asked_service, by_text, exchange_text, means_text, refusal_text, shown_or_dash};
 
 use crate::answer::Answer;
 use crate::asked::{Asked, Means};
@@ -66,7 +66,7 @@ impl fmt::Display for Entry {
     fn fmt<W: fmt::Write>(&self, f: &mut fmt::Formatter<W>) -> fmt::Result {
         let exchange = exchange_of(&self.asked);
         let client = asked_client(&self.asked);
-        let service = service_of(&self.asked);
+        let service = asked_service(&self.asked);
         let answer = &self.answer;
         let means = MeansPart {
             by: by_text(&self.asked),
@@ -194,8 +194,8 @@ fn asked_client(asked: &Asked) -> &str
 }
 
 // Returns the service, or `-`.
-fn service_of(asked: &Asked) -> &str
-    ensures { result.now ≡ service_text asked.now }
+fn asked_service(asked: &Asked) -> &str
+    ensures { result.now ≡ asked_service asked.now }
 {
     match asked {
         Asked::As(names) | Asked::Tgs(names) => shown(&names.service),
