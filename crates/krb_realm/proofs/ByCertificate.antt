@@ -17,7 +17,7 @@ use Rattle.krb_tickets.specs.MethodData.{pa_data_of}
 use Rattle.krb_tickets.specs.Parts.{padata_of}
 use Rattle.krb_tickets.specs.ReplyKeys.{ReplyKeyRecord, agreed_reply_key}
 use Rattle.krb_kdc_exchanges.specs.AsTable.{authenticated, authenticated_by}
-use Rattle.krb_kdc_exchanges.specs.Call.{CallRecord, pkinit_call, skew_of}
+use Rattle.krb_kdc_exchanges.specs.Call.{CallRecord, skew_of}
 use Rattle.krb_kdc_exchanges.specs.Calls.{AreKeyed}
 use Rattle.krb_client.specs.AsRequest.{as_request_of}
 use Rattle.krb_client.specs.Client.{ClientRecord}
@@ -40,12 +40,12 @@ use Rattle.pkinit_validation.specs.Trust.{TrustRecord}
 use Rattle.krb_client.specs.Asked.{agreement_part}
 use Rattle.pkinit_clients.specs.Asked.{PkinitAskedRecord}
 use Rattle.pkinit_clients.specs.Faults.{Secret}
-use Rattle.pkinit_clients.specs.Means.{IsPkinitPadata, by_certificate, key_in, pk_as_rep_in, pkinit_asked}
+use Rattle.pkinit_clients.specs.Means.{IsPkinitPadata, by_certificate, key_in, pk_as_rep_in}
 use Rattle.pkinit_clients.specs.Replies.{secret_of}
 use Rattle.pkinit_clients.proofs.Decided as clients
 use Rattle.krb_realm.specs.Agreements.{IsAgreedReply}
-use Rattle.krb_realm.specs.Honest.{IsHonestReply, IsHonestRequest}
-use Rattle.krb_realm.specs.HonestByCertificate.{IsHonestByCertificate}
+use Rattle.krb_realm.specs.Honest.{IsHonestAgreement, IsHonestReply, IsHonestRequest}
+use Rattle.krb_realm.specs.HonestByCertificate.{IsHonestByCertificate, pkinit_asked_of_login, pkinit_call_of_login}
 use Rattle.krb_realm.proofs.Granted as granting
 use Rattle.krb_realm.proofs.Taken as taking
 use Rattle.krb_realm.proofs.Rows.{past_need}
@@ -76,10 +76,13 @@ module _ (client : ClientRecord) (certificate : Bytes) (anchor : AnchorRecord) (
   body = as_body_of_login client login
 
   abbrev judged : PkinitCallRecord
-  judged = pkinit_call call client.components body
+  judged = pkinit_call_of_login client realm login
 
   abbrev remembered : PkinitAskedRecord
-  remembered = pkinit_asked anchor client (first_asked client login)
+  remembered = pkinit_asked_of_login anchor client login
+
+  abbrev agreement : IsHonestAgreement client_keys realm_keys certificate login.client_as (agreement_part login.words_as) trust judged
+  agreement = by.exchange.agreement
 
   in_time : is_far (skew_of call) login.realm_as login.client_as ≡ false
   in_time =
@@ -88,25 +91,21 @@ module _ (client : ClientRecord) (certificate : Bytes) (anchor : AnchorRecord) (
 
   abbrev request : IsHonestRequest client_keys realm_keys certificate login.client_as (agreement_part login.words_as) trust judged
   request = record {
-    anchor = by.realm_anchor;
-    has_anchor = by.has_anchor;
-    client = by.client_trusted;
+    agreement = agreement;
     near = in_time;
-    own = by.own;
-    has_own = by.has_own;
-    read = by.realm_trusted.read;
-    reads = by.realm_trusted.accepts.reads;
-    signs = by.realm_trusted.signs;
-    agreeing = by.agreeing;
+    read = by.exchange.realm_trusted.read;
+    reads = by.exchange.realm_trusted.accepts.reads;
+    signs = by.exchange.realm_trusted.signs;
   }
 
-  abbrev reply_there : IsHonestReply client_keys realm_keys by.own (agreement_bytes login.realm_words_as) remembered
-  reply_there = record { realm = by.realm_trusted; agreeing = by.agreeing }
+  abbrev reply_there : IsHonestReply client_keys realm_keys agreement.pkinit.own (agreement_bytes login.realm_words_as) remembered
+  reply_there = record { agreeing = agreement.agreeing; realm_trusted = by.exchange.realm_trusted }
 
   -- the realm agreed on the secret, and replies so
   abbrev IsAgreed : AgreedRecord → Type 0
   IsAgreed agreed =
-      (agreed.secret ≡ by.agreeing.secret) × IsAgreedReply realm_keys by.own by.agreeing.realm_key.subject_public_key body.nonce.0 agreed.reply
+      (agreed.secret ≡ agreement.agreeing.secret)
+      × IsAgreedReply realm_keys agreement.pkinit.own agreement.agreeing.realm_key.subject_public_key body.nonce.0 agreed.reply
 
   abbrev key_under : AgreedRecord → ReplyKeyRecord
   key_under agreed = agreed_reply_key account.suite (agreed_key account.suite agreed.secret) agreed.reply
@@ -115,7 +114,7 @@ module _ (client : ClientRecord) (certificate : Bytes) (anchor : AnchorRecord) (
     -- the client's secret is the realm's
     one_secret : (secret : Secret) → (secret_of client_keys remembered agreed.reply).gives secret → secret ≡ Ok agreed.secret
     one_secret secret gives =
-        taking.taken client_keys realm_keys by.own (agreement_bytes login.realm_words_as) remembered reply_there agreed.reply is.1 secret gives ∙ ap Ok (sym is.0)
+        taking.taken client_keys realm_keys agreement.pkinit.own (agreement_bytes login.realm_words_as) remembered reply_there agreed.reply is.1 secret gives ∙ ap Ok (sym is.0)
 
     one_key : (key : Result KeyRecord TakeRefusal) → (key_in client_keys anchor client (first_asked client login) agreed.reply).gives key
         → key ≡ Ok (record { suite = account.suite; bytes = agreed_key account.suite agreed.secret })

@@ -53,23 +53,24 @@ by_rsa group client certificate anchor client_own realm trust realm_own service 
     let shared : IsAgreed group realm_words client_words h.client_value = one_secret realm_words client_words h.realm_value h.client_value h.has_realm_value h.has_client_value in
     record {
       honest = h.honest;
-      agreeing = record {
-        client_element = h.client_value;
-        client_value = h.has_client_value;
-        client_key = key_of group (own_number group client_words);
-        is_client_key = own_key group client_words h.client_value h.has_client_value;
-        realm_element = h.realm_value;
-        realm_value = h.has_realm_value;
-        realm_key = key_of group (own_number group realm_words);
-        is_realm_key = own_key group realm_words h.realm_value h.has_realm_value;
-        secret = shared.secret;
-        realm_agrees = shared.by_value;
-        client_agrees = shared.by_bits;
+      exchange = record {
+        agreement = record {
+          agreeing = record {
+            client_element = h.client_value;
+            client_value = h.has_client_value;
+            client_key = key_of group (own_number group client_words);
+            is_client_key = own_key group client_words h.client_value h.has_client_value;
+            realm_element = h.realm_value;
+            realm_value = h.has_realm_value;
+            realm_key = key_of group (own_number group realm_words);
+            is_realm_key = own_key group realm_words h.realm_value h.has_realm_value;
+            secret = shared.secret;
+            realm_agrees = shared.by_value;
+            client_agrees = shared.by_bits;
+          };
+          pkinit = h.pkinit;
+          client_trusted = trusted group client_own realm_own _ certificate _ h.client_certified;
+        };
+        realm_trusted = trusted group realm_own client_own _ h.pkinit.own _ h.realm_certified;
       };
-      realm_anchor = h.realm_anchor;
-      has_anchor = h.has_anchor;
-      own = h.own;
-      has_own = h.has_own;
-      client_trusted = trusted group client_own realm_own _ certificate _ h.client_certified;
-      realm_trusted = trusted group realm_own client_own _ h.own _ h.realm_certified;
     }

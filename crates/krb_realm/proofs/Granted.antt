@@ -42,7 +42,7 @@ use Rattle.pkinit_validation.specs.Trust.{TrustRecord}
 use Rattle.pkinit_clients.specs.AuthPacks as client
 use Rattle.pkinit_clients.specs.Requests.{IsNoPkAsReq, IsPkAsReqOf, pack_bytes, pk_as_req_bytes, pk_as_req_of}
 use Rattle.krb_realm.specs.Agreements.{AreAgreeing, IsGrantedAgreement, IsKeyInfoText, IsPackText, Signs}
-use Rattle.krb_realm.specs.Honest.{IsHonestRequest}
+use Rattle.krb_realm.specs.Honest.{IsHonestRequest, IsPkinitRealm}
 use Rattle.krb_realm.proofs.Rows.{by_need, by_refuse, same_octets}
 use Rattle.krb_realm.proofs.Trusting.{is_trusted}
 use Rattle.krb_realm.proofs.Wholeness.{key_element}
@@ -128,15 +128,18 @@ agrees keys judging asked secret reply near agreed replied =
 module _ (client_keys realm_keys : KeysRecord) (certificate : Bytes) (client_moment : Micros) (client_words : Bytes) (trust : TrustRecord) (call : PkinitCallRecord)
     (honest : IsHonestRequest client_keys realm_keys certificate client_moment client_words trust call) where
   abbrev agreeing : AreAgreeing client_keys realm_keys client_words (agreement_bytes call.words)
-  agreeing = honest.agreeing
+  agreeing = honest.agreement.agreeing
+
+  abbrev pkinit : IsPkinitRealm trust
+  pkinit = honest.agreement.pkinit
 
   abbrev judging : JudgingRecord
-  judging = judging_by call honest.anchor honest.own
+  judging = judging_by call pkinit.anchor pkinit.own
 
   -- what the realm signs, with the nonce of the body
-  reply_signed : (signed : Bytes) × IsWritten realm_keys.sign dh_key_data (key_info_bytes (key_info_of agreeing.realm_key.subject_public_key call.body.nonce.0)) honest.own signed
+  reply_signed : (signed : Bytes) × IsWritten realm_keys.sign dh_key_data (key_info_bytes (key_info_of agreeing.realm_key.subject_public_key call.body.nonce.0)) pkinit.own signed
   reply_signed =
-      written_over realm_keys client_keys honest.own honest.read agreeing.realm_key.subject_public_key call.body.nonce.0 honest.reads honest.signs
+      written_over realm_keys client_keys pkinit.own honest.read agreeing.realm_key.subject_public_key call.body.nonce.0 honest.reads honest.signs
 
   abbrev agreed : AgreedRecord
   agreed = record { secret = agreeing.secret; reply = dh_reply_bytes (dh_reply_of reply_signed.0) }
@@ -153,10 +156,10 @@ module _ (client_keys realm_keys : KeysRecord) (certificate : Bytes) (client_mom
   pub asked : IsNoPkAsReq client_keys certificate call.body client_moment client_words → ⊥
   asked (inl none) = let never : None ≡ Some agreeing.client_element = sym none ∙ agreeing.client_value in absurd (cc (never))
   asked (inr (inl unsigned)) =
-      let made = honest.client.signs (signed_bytes client.auth_data (pack_bytes call.body client_moment unsigned.second unsigned.value)) (pack_text unsigned.second unsigned.value unsigned.of_moment unsigned.is_value) in
+      let made = honest.agreement.client_trusted.signs (signed_bytes client.auth_data (pack_bytes call.body client_moment unsigned.second unsigned.value)) (pack_text unsigned.second unsigned.value unsigned.of_moment unsigned.is_value) in
       let never : None ≡ Some made.0 = sym unsigned.unsigned ∙ made.1 in
       absurd (cc (never))
-  asked (inr (inr none)) = none honest.client.read.certificate honest.client.accepts.reads.count honest.client.accepts.reads.spelled
+  asked (inr (inr none)) = none honest.agreement.client_trusted.read.certificate honest.agreement.client_trusted.accepts.reads.count honest.agreement.client_trusted.accepts.reads.spelled
 
   module _ (bytes : Bytes) (is : IsPkAsReqOf client_keys certificate call.body client_moment client_words bytes) where
     abbrev parts : SignedParts
@@ -181,11 +184,11 @@ module _ (client_keys realm_keys : KeysRecord) (certificate : Bytes) (client_mom
             inl (
               tt,
               is_trusted client_keys realm_keys client.auth_data (pack_bytes call.body client_moment is.second is.value) certificate is.signed is.is_signed judging.expected
-                  (IsPackText call.body client_moment agreeing.client_element) honest.client (pack_text is.second is.value is.of_moment is.is_value),
+                  (IsPackText call.body client_moment agreeing.client_element) honest.agreement.client_trusted (pack_text is.second is.value is.of_moment is.is_value),
               refl,
             ),
             agrees realm_keys judging (asked_for call.body client_moment is.value) agreeing.secret (dh_reply_bytes (dh_reply_of reply_signed.0)) honest.near value_agrees
-                (replies realm_keys honest.own call.body.nonce.0 call.words agreeing.realm_element agreeing.realm_key reply_signed.0 agreeing.realm_value agreeing.is_realm_key reply_signed.1),
+                (replies realm_keys pkinit.own call.body.nonce.0 call.words agreeing.realm_element agreeing.realm_key reply_signed.0 agreeing.realm_value agreeing.is_realm_key reply_signed.1),
           ),
         )
 
@@ -198,8 +201,8 @@ module _ (client_keys realm_keys : KeysRecord) (certificate : Bytes) (client_mom
     given : (pkinit_table realm_keys trust call bytes).gives (Ok agreed)
     unfolding pkinit_table
     given =
-        by_need {A = AnchorRecord} {T = AgreedRecord} {E = Code} trust.anchor KDC_ERR_PADATA_TYPE_NOSUPP _ honest.anchor (Ok agreed) honest.has_anchor
-        (by_need {A = Bytes} {T = AgreedRecord} {E = Code} trust.certificate KDC_ERR_PADATA_TYPE_NOSUPP _ honest.own (Ok agreed) honest.has_own
+        by_need {A = AnchorRecord} {T = AgreedRecord} {E = Code} trust.anchor KDC_ERR_PADATA_TYPE_NOSUPP _ pkinit.anchor (Ok agreed) pkinit.has_anchor
+        (by_need {A = Bytes} {T = AgreedRecord} {E = Code} trust.certificate KDC_ERR_PADATA_TYPE_NOSUPP _ pkinit.own (Ok agreed) pkinit.has_own
         (inl (
           pk_as_req_of is.signed,
           written_request is.signed bytes is.encoding,
@@ -208,7 +211,7 @@ module _ (client_keys realm_keys : KeysRecord) (certificate : Bytes) (client_mom
 
     -- the realm grants it
     pub granted : (result : Result AgreedRecord Code) → (pkinit_table realm_keys trust call bytes).gives result
-        → IsGrantedAgreement realm_keys honest.own agreeing.realm_key.subject_public_key call.body.nonce.0 agreeing.secret result
+        → IsGrantedAgreement realm_keys pkinit.own agreeing.realm_key.subject_public_key call.body.nonce.0 agreeing.secret result
     granted result gives = record {
       agreed = agreed;
       is_agreed = (pkinit_table realm_keys trust call bytes).one result (Ok agreed) gives given;

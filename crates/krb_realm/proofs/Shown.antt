@@ -307,26 +307,25 @@ module _ (client_keys realm_keys : KeysRecord) (certificate : Bytes) (trust : Tr
       let r = replied_so anchor.0 own.0 granted.1 in
       let t = taken_so own.0 r takes in
       record {
-        agreeing = record {
-          client_element = is.value;
-          client_value = is.is_value;
-          client_key = key;
-          is_client_key = is_key;
-          realm_element = r.element;
-          realm_value = r.own_value;
-          realm_key = r.own_key;
-          is_realm_key = r.is_own_key;
-          secret = r.secret;
-          realm_agrees = r.agrees;
-          client_agrees = t.1 ∙ ap Some r.same_secret;
+        agreement = record {
+          agreeing = record {
+            client_element = is.value;
+            client_value = is.is_value;
+            client_key = key;
+            is_client_key = is_key;
+            realm_element = r.element;
+            realm_value = r.own_value;
+            realm_key = r.own_key;
+            is_realm_key = r.is_own_key;
+            secret = r.secret;
+            realm_agrees = r.agrees;
+            client_agrees = t.1 ∙ ap Some r.same_secret;
+          };
+          pkinit = record { anchor = anchor.0; has_anchor = anchor.1; own = own.0; has_own = own.1 };
+          client_trusted =
+              trusted_shown client_keys realm_keys auth_data pack_text certificate is.signed is.is_signed (expected_client call anchor.0)
+              (IsPackText call.body asked.moment is.value) only_pack granted.0;
         };
-        realm_anchor = anchor.0;
-        has_anchor = anchor.1;
-        own = own.0;
-        has_own = own.1;
-        client_trusted =
-            trusted_shown client_keys realm_keys auth_data pack_text certificate is.signed is.is_signed (expected_client call anchor.0)
-            (IsPackText call.body asked.moment is.value) only_pack granted.0;
         realm_trusted =
             trusted_shown realm_keys client_keys dh_key_data (info_text own.0 r) own.0 r.signed r.is_signed (expected_realm asked)
             (IsKeyInfoText r.own_key.subject_public_key call.body.nonce.0) (λ text same. same) t.0;

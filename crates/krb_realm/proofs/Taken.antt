@@ -71,7 +71,7 @@ module _ (client_keys realm_keys : KeysRecord) (own realm_words : Bytes) (asked 
         inl (
           tt,
           is_trusted realm_keys client_keys dh_key_data content own is.signed is.is_signed (expected_realm asked)
-              (IsKeyInfoText agreeing.realm_key.subject_public_key (pos asked.nonce)) honest.realm refl,
+              (IsKeyInfoText agreeing.realm_key.subject_public_key (pos asked.nonce)) honest.realm_trusted refl,
           refl,
         ),
         given_by_info,

@@ -17,22 +17,32 @@ use Rattle.krb_realm.specs.Agreements.{AreAgreeing, IsKeyInfoText, IsPackText, I
 abbrev pub expected_client : PkinitCallRecord → AnchorRecord → ExpectedRecord
 expected_client call anchor = record { realm = call.realm; name = call.client; anchor = anchor; moment = call.moment }
 
--- both agree. The realm has an anchor and a certificate of its own, whose holder signs its public value with the request's nonce. It
--- accepts the client's certificate, whose holder signs the AuthPack, and the client's clock is near its own
-pub record IsHonestRequest (client_keys realm_keys : KeysRecord) (certificate : Bytes) (client_moment : Micros) (client_words : Bytes) (trust : TrustRecord)
-    (call : PkinitCallRecord) : Type 0 where
-  pub agreeing : AreAgreeing client_keys realm_keys client_words (agreement_bytes call.words)
+-- the realm has an anchor, and a certificate of its own
+pub record IsPkinitRealm (trust : TrustRecord) : Type 0 where
   pub anchor : AnchorRecord
   pub has_anchor : trust.anchor ≡ Some anchor
-  pub client : IsTrusted client_keys realm_keys (expected_client call anchor) certificate (IsPackText call.body client_moment agreeing.client_element)
-  pub near : is_far call.skew call.moment client_moment ≡ false
   pub own : Bytes
   pub has_own : trust.certificate ≡ Some own
+
+-- Both agree on a secret by their random bytes, and the realm has an anchor and a certificate. It accepts the client's certificate,
+-- whose holder signs the AuthPack.
+pub record IsHonestAgreement (client_keys realm_keys : KeysRecord) (certificate : Bytes) (client_moment : Micros) (client_words : Bytes) (trust : TrustRecord)
+    (call : PkinitCallRecord) : Type 0 where
+  pub agreeing : AreAgreeing client_keys realm_keys client_words (agreement_bytes call.words)
+  pub pkinit : IsPkinitRealm trust
+  pub client_trusted : IsTrusted client_keys realm_keys (expected_client call pkinit.anchor) certificate (IsPackText call.body client_moment agreeing.client_element)
+
+-- The agreement is honest, and the client's clock is near the realm's. The holder of the realm's certificate signs the realm's public
+-- value with the request's nonce.
+pub record IsHonestRequest (client_keys realm_keys : KeysRecord) (certificate : Bytes) (client_moment : Micros) (client_words : Bytes) (trust : TrustRecord)
+    (call : PkinitCallRecord) : Type 0 where
+  pub agreement : IsHonestAgreement client_keys realm_keys certificate client_moment client_words trust call
+  pub near : is_far call.skew call.moment client_moment ≡ false
   pub read : ReadRecord
-  pub reads : IsCertificate own read
-  pub signs : Signs realm_keys client_keys read.certificate (IsKeyInfoText agreeing.realm_key.subject_public_key call.body.nonce.0)
+  pub reads : IsCertificate agreement.pkinit.own read
+  pub signs : Signs realm_keys client_keys read.certificate (IsKeyInfoText agreement.agreeing.realm_key.subject_public_key call.body.nonce.0)
 
 -- both agree. The client accepts the realm's certificate, whose holder signs its public value with the request's nonce
 pub record IsHonestReply (client_keys realm_keys : KeysRecord) (own realm_words : Bytes) (asked : PkinitAskedRecord) : Type 0 where
   pub agreeing : AreAgreeing client_keys realm_keys asked.words realm_words
-  pub realm : IsTrusted realm_keys client_keys (expected_realm asked) own (IsKeyInfoText agreeing.realm_key.subject_public_key (pos asked.nonce))
+  pub realm_trusted : IsTrusted realm_keys client_keys (expected_realm asked) own (IsKeyInfoText agreeing.realm_key.subject_public_key (pos asked.nonce))

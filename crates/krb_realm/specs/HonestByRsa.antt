@@ -13,8 +13,10 @@ use Rattle.pkinit_validation.specs.Certificates.{ReadRecord}
 use Rattle.pkinit_validation.specs.Expected.{ExpectedRecord}
 use Rattle.pkinit_validation.specs.AgreementBytes.{agreement_bytes}
 use Rattle.pkinit_validation.specs.Trust.{TrustRecord}
+use Rattle.pkinit_clients.specs.Asked.{expected_realm}
 use Rattle.krb_realm.specs.Agreements.{IsAcceptedFor}
-use Rattle.krb_realm.specs.HonestByCertificate.{client_under, realm_under}
+use Rattle.krb_realm.specs.Honest.{IsPkinitRealm, expected_client}
+use Rattle.krb_realm.specs.HonestByCertificate.{pkinit_asked_of_login, pkinit_call_of_login}
 use Rattle.public_key_cryptography.specs.RightKeys.{IsRight}
 use Rattle.rsa_keys.specs.Agreements.{own_value}
 use Rattle.rsa_keys.specs.Functions.{IsPublicPart, rsa_functions}
@@ -38,9 +40,6 @@ pub record IsHonestByRsa (group : Group) (client : ClientRecord) (certificate : 
   pub has_client_value : own_value group (agreement_part login.words_as) ≡ Some client_value
   pub realm_value : Raw
   pub has_realm_value : own_value group (agreement_bytes login.realm_words_as) ≡ Some realm_value
-  pub realm_anchor : AnchorRecord
-  pub has_anchor : trust.anchor ≡ Some realm_anchor
-  pub own : Bytes
-  pub has_own : trust.certificate ≡ Some own
-  pub client_certified : IsCertified group client_own realm_own (client_under realm_anchor client realm login) certificate
-  pub realm_certified : IsCertified group realm_own client_own (realm_under anchor client login) own
+  pub pkinit : IsPkinitRealm trust
+  pub client_certified : IsCertified group client_own realm_own (expected_client (pkinit_call_of_login client realm login) pkinit.anchor) certificate
+  pub realm_certified : IsCertified group realm_own client_own (expected_realm (pkinit_asked_of_login anchor client login)) pkinit.own

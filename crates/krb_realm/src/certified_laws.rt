@@ -33,7 +33,8 @@ pub fn agreement_granted()
         (honest : IsHonestRequest client_keys realm_keys certificate client_moment client_words trust call) (bytes : List ℕ)
         → IsPkAsReqOf client_keys certificate call.body client_moment client_words bytes
         → (result : Result AgreedRecord ℕ) → (pkinit_table realm_keys trust call bytes).gives result
-        → IsGrantedAgreement realm_keys honest.own honest.agreeing.realm_key.subject_public_key call.body.nonce.0 honest.agreeing.secret result }
+        → IsGrantedAgreement realm_keys honest.agreement.pkinit.own honest.agreement.agreeing.realm_key.subject_public_key call.body.nonce.0
+        honest.agreement.agreeing.secret result }
 {}
 
 /// An honest client takes the secret on which both agree from the reply of an honest realm with the nonce that it asked with (RFC
