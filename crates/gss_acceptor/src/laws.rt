@@ -4,12 +4,12 @@ ghost use Rattle.krb_ap_requests.specs.Presents.{Choice};
 ghost use Rattle.krb_ap_requests.specs.declared.refusal.AdmitRefusal.{AdmitRefusal};
 ghost use Rattle.krb_service.specs.Admission.{AdmissionRecord};
 ghost use Rattle.krb_service.specs.ChosenEntry.{IsPresentedTo};
-ghost use Rattle.krb_service.specs.OnceForEver.{AreOnce, admissions_in};
+ghost use Rattle.krb_service.specs.OnceForEver.{AreOnce};
 ghost use Rattle.krb_service.specs.Pair.{PairRecord};
 ghost use Rattle.krb_service.specs.Runs.{AdmissionCall, IsRun};
 ghost use Rattle.krb_service.specs.Seen.{IsWindow};
 ghost use Rattle.gss_acceptor.specs.Accepting.{AcceptorRecord, AdmitRequest, Handles, Takes, VerifyMic, carried, resumed};
-ghost use Rattle.gss_acceptor.specs.AcceptorRuns.{AreTaken, TakenStep, contexts_in};
+ghost use Rattle.gss_acceptor.specs.AcceptorRuns.{AreCallsOf, AreTaken, TakenStep, contexts_in};
 ghost use Rattle.gss_acceptor.specs.Chosen.{IsChosen, IsChosenAfter};
 ghost use Rattle.gss_acceptor.specs.Due.{IsDue, IsDueAfter};
 ghost use Rattle.gss_acceptor.specs.Established.{EstablishedRecord};
@@ -51,15 +51,15 @@ pub fn established_under_mic()
         → IsDueAfter list accepted }
 {}
 
-/// The admissions of an acceptor's steps are a run of its service, with any entries at each step. So over any list of steps no client begins
-/// two contexts with one authenticator time, also where keys were replaced between them. It does nothing when it runs: its contract is the
-/// law.
+/// The steps of an acceptor are a run of its service, with any entries at each step. Each AP-REQ is one call, and a context begins only if
+/// that is admitted. So over any list of steps no client begins two contexts with one authenticator time, also where keys were replaced
+/// between them. It does nothing when it runs: its contract is the law.
 pub fn once_for_ever()
     ensures run { (acceptor after : AcceptorRecord) (steps : List TakenStep) (admitted : List PairRecord)
         → IsWindow acceptor.service.seen admitted → AreTaken acceptor steps after
         → (calls : List AdmissionCall) × (answers : List (Result AdmissionRecord AdmitRefusal)) × (all : List PairRecord)
         × IsRun acceptor.service.seen.skew acceptor.service.seen.greatest admitted calls answers all
-        × IsWindow after.service.seen all × (contexts_in steps ≤ admissions_in answers) }
+        × IsWindow after.service.seen all × AreCallsOf steps calls answers }
     ensures once { (acceptor after : AcceptorRecord) (steps : List TakenStep) (admitted : List PairRecord)
         → IsWindow acceptor.service.seen admitted → AreOnce admitted → AreTaken acceptor steps after
         → (all : List PairRecord) × IsWindow after.service.seen all × AreOnce all × (contexts_in steps + length admitted ≤ length all) }
