@@ -4,6 +4,9 @@
 //! key, opposite sides, and each takes the other's next number. What an honest login by password or certificate granted makes one by GSS
 //! honest (laws `granted_is_honest`, `exchanged_is_honest`), and `is_honest` answers true of such logins alone. What one end wraps the other
 //! unwraps to the same message, and each MIC is right, as long as the numbers go up (law `one_conversation`).
+//!
+//! Where no ciphertext was forged, the realm had authenticated whoever gets a context (law `established_was_authenticated`). What an
+//! initiator sends is a request of the client, as the laws of `krb_authenticity` take it (law `context_request_is_sent`).
 #![tactic(auto)]
 
 mod honest;

@@ -18,6 +18,9 @@
 //! [`one_key_by_rsa`] is this law for the key functions of `rsa_keys`. Its premises speak of certificates, names and clocks, and of
 //! right keys and public values that are made. That a party signs, that its signature verifies, and that both come to one secret, is no
 //! premise there.
+//!
+//! Where no one signs but the holders of their keys, a client that the realm accepted by certificate asked by it (law
+//! `certified_client_asked`). This premise holds of requests that come to the realm as clients sent them (law `certified_is_signed`).
 #![tactic(auto)]
 
 mod certified_honesty;
