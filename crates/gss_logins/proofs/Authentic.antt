@@ -1,18 +1,28 @@
 -- Whoever gets a context the realm had authenticated.
-use Rattle.std.proofs.Common.{List, sym}
+use Rattle.std.proofs.Common.{List, Option, sym, subst}
 use Rattle.picky_asn1.specs.Bytes.{Bytes}
 use Rattle.krb_kdc_exchanges.specs.Rows.{PkinitRows}
 use Rattle.krb_ap_requests.specs.Presents.{Choice}
 use Rattle.krb_authenticity.specs.Authentic.{WasAuthenticated}
 use Rattle.krb_authenticity.specs.Parties.{ExchangeRecord, SentRecord}
 use Rattle.krb_authenticity.proofs.Traced.{moved}
-use Rattle.gss_acceptor.specs.Chosen.{IsChosen, IsChosenAfter, IsChosenAt}
+use Rattle.gss_acceptor.specs.Accepting.{AdmitRequest, AskFor, Step, VerifyMic}
+use Rattle.gss_acceptor.specs.Chosen.{IsChosen}
 use Rattle.gss_acceptor.specs.Established.{EstablishedRecord}
-use Rattle.gss_acceptor.specs.declared.accepted.Accepted.{Accepted}
-use Rattle.gss_acceptor.specs.declared.accepted.Accepted.TheVariants.{ContinueNeeded, Established}
-use Rattle.gss_acceptor.specs.declared.accepted.Stage.{Stage}
-use Rattle.gss_acceptor.specs.declared.accepted.Stage.TheVariants.{Mic, Token}
-use Rattle.gss_logins.specs.Carried.{IsAuthenticAfter, IsAuthenticAt, IsAuthenticContext}
+use Rattle.gss_logins.specs.Carried.{IsAuthenticContext, IsToAdmit, IsToVerify}
+use Rattle.gss_logins.proofs.Unnamed.{Exchange, Unverified}
+
+-- what holds of each step that is to admit this AP-REQ, or to verify this context's MIC
+pub to_admit : (P : Step → Type 0) (message : Bytes) → ((exchange : Option Exchange) → P (AdmitRequest message exchange)) → (step : Step) → IsToAdmit message step → P step
+to_admit P message holds (AskFor mechanism terms) none = absurd none
+to_admit P message holds (AdmitRequest own exchange) same = subst (λ m. P (AdmitRequest m exchange)) (sym same) (holds exchange)
+to_admit P message holds (VerifyMic unverified theirs) none = absurd none
+
+pub to_verify : (P : Step → Type 0) (established : EstablishedRecord) → ((unverified : Unverified) (theirs : Bytes) → IsToVerify established (VerifyMic unverified theirs) → P (VerifyMic unverified theirs))
+    → (step : Step) → IsToVerify established step → P step
+to_verify P established holds (AskFor mechanism terms) none = absurd none
+to_verify P established holds (AdmitRequest own exchange) none = absurd none
+to_verify P established holds (VerifyMic unverified theirs) same = holds unverified theirs same
 
 module _ (rows : PkinitRows) (keys : List Bytes) (exchanges : List ExchangeRecord) (sent : SentRecord) where
   -- a context has the client and the authtime of the presented ticket
@@ -23,16 +33,6 @@ module _ (rows : PkinitRows) (keys : List Bytes) (exchanges : List ExchangeRecor
     is_chosen = is;
     client = moved rows keys exchanges sent choice.part.crealm.0 established.realm choice.part.cname.0 established.client choice.part.auth_time.0.0 established.authtime is.realm is.client is.authtime was;
   }
-
-  at_stage : (choice : Choice) (stage : Stage) → IsChosenAt choice stage
-      → WasAuthenticated rows keys exchanges sent choice.part.crealm.0 choice.part.cname.0 choice.part.auth_time.0.0 → IsAuthenticAt rows keys exchanges sent stage
-  at_stage choice (Token terms) is was = absurd is
-  at_stage choice (Mic unverified) is was = of_choice choice unverified.established is was
-
-  pub accepted_of : (choice : Choice) (accepted : Accepted) → IsChosenAfter choice accepted
-      → WasAuthenticated rows keys exchanges sent choice.part.crealm.0 choice.part.cname.0 choice.part.auth_time.0.0 → IsAuthenticAfter rows keys exchanges sent accepted
-  accepted_of choice (Established established) is was = of_choice choice established is was
-  accepted_of choice (ContinueNeeded continuation) is was = at_stage choice continuation.negotiation.stage is was
 
   -- the ticket's client and authtime are those of a context that is as the client chose
   pub of_context : (established : EstablishedRecord) → (x : IsAuthenticContext rows keys exchanges sent established)

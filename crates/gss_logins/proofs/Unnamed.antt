@@ -1,9 +1,12 @@
 -- Types of the ends that their crates don't name to others.
 use Rattle.std.specs.Prelude.{Option, Result}
-use Rattle.gss_acceptor.specs.Accepting.{AdmitRequest, established_of}
+use Rattle.gss_acceptor.specs.Accepting.{AdmitRequest, VerifyMic, established_of}
 use Rattle.gss_acceptor.specs.Negotiation.{offer_by}
 use Rattle.gss_initiator.specs.Responses.{answer_in}
 use Rattle.gss_initiator.specs.Taking.{unasked}
+
+abbrev pub first_of : {A B C : Type 0} → (A → B → C) → Type 0
+first_of {A} {B} {C} f = A
 
 abbrev pub second_of : {A B C : Type 0} → (A → B → C) → Type 0
 second_of {A} {B} {C} f = B
@@ -31,6 +34,10 @@ made_of {A} {B} {E} f = B
 -- how a request came in SPNEGO
 abbrev pub Exchange : Type 0
 Exchange = item_of AdmitRequest
+
+-- a context that waits for its initiator's MIC
+abbrev pub Unverified : Type 0
+Unverified = first_of VerifyMic
 
 -- what SPNEGO offers
 abbrev pub Offer : Type 0

@@ -11,17 +11,21 @@ use Rattle.krb_authenticity.specs.Authentic.{WasAuthenticated}
 use Rattle.krb_authenticity.specs.Ciphertexts.{IsRequestUnforged}
 use Rattle.krb_authenticity.specs.Parties.{ExchangeRecord, SentRecord}
 use Rattle.gss_acceptor.specs.Accepting.{AcceptorRecord, AdmitRequest, AskFor, Step, VerifyMic, carried}
-use Rattle.gss_acceptor.specs.Chosen.{IsChosen}
+use Rattle.gss_acceptor.specs.Chosen.{IsChosen, IsChosenAfter}
 use Rattle.gss_acceptor.specs.Established.{EstablishedRecord}
 use Rattle.gss_acceptor.specs.declared.accepted.Accepted.{Accepted}
-use Rattle.gss_acceptor.specs.declared.accepted.Accepted.TheVariants.{ContinueNeeded, Established}
-use Rattle.gss_acceptor.specs.declared.accepted.Stage.{Stage}
-use Rattle.gss_acceptor.specs.declared.accepted.Stage.TheVariants.{Mic, Token}
 
+-- the step is to admit this AP-REQ
 abbrev pub IsToAdmit : Bytes → Step → Type 0
 IsToAdmit message (AskFor mechanism terms) = ⊥
 IsToAdmit message (AdmitRequest own exchange) = own ≡ message
 IsToAdmit message (VerifyMic unverified theirs) = ⊥
+
+-- the step is to verify the MIC of this context's initiator
+abbrev pub IsToVerify : EstablishedRecord → Step → Type 0
+IsToVerify established (AskFor mechanism terms) = ⊥
+IsToVerify established (AdmitRequest own exchange) = ⊥
+IsToVerify established (VerifyMic unverified theirs) = unverified.established ≡ established
 
 -- the token carries this AP-REQ, bare or in a message of SPNEGO
 abbrev pub Carries : Bytes → Bytes → Type 0
@@ -38,12 +42,8 @@ pub record IsAuthenticContext (rows : PkinitRows) (keys : List Bytes) (exchanges
   pub is_chosen : IsChosen choice established
   pub client : WasAuthenticated rows keys exchanges sent established.realm established.client established.authtime
 
--- so is a context that waits for its initiator's MIC
-abbrev pub IsAuthenticAt : PkinitRows → List Bytes → List ExchangeRecord → SentRecord → Stage → Type 0
-IsAuthenticAt rows keys exchanges sent (Token terms) = ⊥
-IsAuthenticAt rows keys exchanges sent (Mic unverified) = IsAuthenticContext rows keys exchanges sent unverified.established
-
--- and one that is accepted
+-- so is the context that is established, or that waits for its initiator's MIC
 abbrev pub IsAuthenticAfter : PkinitRows → List Bytes → List ExchangeRecord → SentRecord → Accepted → Type 0
-IsAuthenticAfter rows keys exchanges sent (Established established) = IsAuthenticContext rows keys exchanges sent established
-IsAuthenticAfter rows keys exchanges sent (ContinueNeeded continuation) = IsAuthenticAt rows keys exchanges sent continuation.negotiation.stage
+IsAuthenticAfter rows keys exchanges sent accepted =
+    (choice : Choice) × IsChosenAfter choice accepted
+    × WasAuthenticated rows keys exchanges sent choice.part.crealm.0 choice.part.cname.0 choice.part.auth_time.0.0

@@ -1,5 +1,5 @@
 //! The laws of both ends of a context. Each is a function that does nothing when it runs: its contract is the law.
-ghost use Rattle.std.specs.Prelude.{◌≡◌, ◌<◌, List, ℕ, Ok, Option, Result};
+ghost use Rattle.std.specs.Prelude.{◌≡◌, ◌<◌, List, ℕ, Ok, Result};
 ghost use Rattle.krb_client.specs.Client.{ClientRecord, CredentialRecord};
 ghost use Rattle.krb_kdc_exchanges.specs.declared.span.Span.{Span};
 ghost use Rattle.krb_service.specs.Pair.{PairRecord};
@@ -11,13 +11,11 @@ ghost use Rattle.krb_logins.specs.LoginRun.{Exchanges};
 ghost use Rattle.krb_logins.specs.Parties.{LoginRecord, RealmRecord, RememberedRecord};
 ghost use Rattle.krb_authenticity.specs.Ciphertexts.{IsRealmUnforged};
 ghost use Rattle.krb_authenticity.specs.Parties.{ExchangeRecord, IsClient, IsServiceSent, SentRecord, service_request_of};
-ghost use Rattle.gss_acceptor.specs.Accepting.{AcceptorRecord, AdmitRequest, Handles, Takes, VerifyMic, carried};
+ghost use Rattle.gss_acceptor.specs.Accepting.{AcceptorRecord, Handles, Step, Takes, carried};
 ghost use Rattle.gss_acceptor.specs.Established.{EstablishedRecord};
 ghost use Rattle.gss_acceptor.specs.declared.accepted.Accepted.{Accepted};
 ghost use Rattle.gss_acceptor.specs.declared.accepted.Accepted.TheVariants.{Established};
 ghost use Rattle.gss_acceptor.specs.declared.checksum.InitialChecksum.{InitialChecksum};
-ghost use Rattle.gss_acceptor.specs.declared.exchange.Exchange.{Exchange};
-ghost use Rattle.gss_acceptor.specs.declared.exchange.Unverified.{Unverified};
 ghost use Rattle.gss_acceptor.specs.declared.terms.AcceptorTerms.{AcceptorTerms};
 ghost use Rattle.gss_contexts.specs.Contexts.{ContextRecord, last_number, sender_of};
 ghost use Rattle.gss_contexts.specs.Tokens.{WritesMic, WritesWrap};
@@ -27,7 +25,7 @@ ghost use Rattle.gss_initiator.specs.declared.initiated.TokenForm.TheVariants.{B
 ghost use Rattle.gss_initiator.specs.declared.refusal.InitiateRefusal.{InitiateRefusal};
 ghost use Rattle.gss_initiator.specs.Checksums.{is_mutual};
 ghost use Rattle.gss_initiator.specs.Requests.{AsksContext};
-ghost use Rattle.gss_logins.specs.Carried.{Carries, IsAuthenticAfter, IsAuthenticContext, IsMessageUnforged};
+ghost use Rattle.gss_logins.specs.Carried.{Carries, IsAuthenticAfter, IsAuthenticContext, IsMessageUnforged, IsToAdmit, IsToVerify};
 ghost use Rattle.gss_logins.specs.Granted.{IsContextAsked, IsHonestGssLogin, IsRemembered, gss_login_of};
 ghost use Rattle.gss_logins.specs.GssLogins.{GssLogin};
 ghost use Rattle.gss_logins.specs.Honest.{IsAnswering, IsHonest};
@@ -98,13 +96,12 @@ pub fn established_was_authenticated<P: Pkinit>(pkinit: &P)
         → IsWindow acceptor.service.seen admitted → Handles (carried token) acceptor moment random (Ok (Established established)) after
         → IsAuthenticContext (P.rows pkinit.now) keys exchanges sent established }
     ensures admitted { (keys : List (List ℕ)) (exchanges : List ExchangeRecord) (sent : SentRecord) (acceptor after : AcceptorRecord) (moment : ℕ) (message random : List ℕ)
-        (exchange : Option Exchange) (admitted : List PairRecord) (accepted : Accepted) → IsRealmUnforged (P.rows pkinit.now) keys exchanges sent
-        → IsMessageUnforged (P.rows pkinit.now) keys exchanges sent acceptor message
-        → IsWindow acceptor.service.seen admitted → Takes (AdmitRequest message exchange) acceptor moment random (Ok accepted) after
-        → IsAuthenticAfter (P.rows pkinit.now) keys exchanges sent accepted }
-    ensures verified { (keys : List (List ℕ)) (exchanges : List ExchangeRecord) (sent : SentRecord) (acceptor after : AcceptorRecord) (moment : ℕ) (theirs random : List ℕ)
-        (unverified : Unverified) (accepted : Accepted) → IsAuthenticContext (P.rows pkinit.now) keys exchanges sent unverified.established
-        → Takes (VerifyMic unverified theirs) acceptor moment random (Ok accepted) after → IsAuthenticAfter (P.rows pkinit.now) keys exchanges sent accepted }
+        (step : Step) (admitted : List PairRecord) (accepted : Accepted) → IsRealmUnforged (P.rows pkinit.now) keys exchanges sent
+        → IsMessageUnforged (P.rows pkinit.now) keys exchanges sent acceptor message → IsWindow acceptor.service.seen admitted
+        → IsToAdmit message step → Takes step acceptor moment random (Ok accepted) after → IsAuthenticAfter (P.rows pkinit.now) keys exchanges sent accepted }
+    ensures verified { (keys : List (List ℕ)) (exchanges : List ExchangeRecord) (sent : SentRecord) (acceptor after : AcceptorRecord) (moment : ℕ) (random : List ℕ)
+        (step : Step) (established : EstablishedRecord) (accepted : Accepted) → IsAuthenticContext (P.rows pkinit.now) keys exchanges sent established
+        → IsToVerify established step → Takes step acceptor moment random (Ok accepted) after → IsAuthenticAfter (P.rows pkinit.now) keys exchanges sent accepted }
 {
     established_as_presented();
     presented_was_authenticated(pkinit);
