@@ -1,7 +1,7 @@
 -- RSASSA-PKCS1-v1_5 (RFC 8017). Section numbers are the RFC's.
 use Rattle.std.specs.Prelude.{◌≡◌, ℕ, ◌+◌, ◌-◌, ◌^◌, ◌%◌, Bool, ◌&&◌, nat_eq, nat_lt, List, [], ◌∷◌, ◌++◌, length, replicate, Option, Some, None, if◌then◌else◌}
 use Rattle.std.specs.Str.{bytes_eq}
-use Rattle.modular_arithmetic.specs.Moduli.{value_of, IsModulusOf}
+use Rattle.modular_arithmetic.specs.Moduli.{IsModulusOf}
 use Rattle.modular_arithmetic.specs.Naturals.{i2osp, os2ip}
 use Rattle.sha2.specs.Sha256.{sha256}
 use Rattle.sha2.specs.Sha512.{sha384, sha512}
@@ -34,16 +34,16 @@ encoded len hash message = padded len (0 ∷ digest_info hash) (digest_of hash m
 
 -- RSAVP1 and I2OSP: what the signature is the private operation of, in the modulus's length (5.2.2, 4.1)
 abbrev pub recovered : PublicKey → List ℕ → List ℕ
-recovered key signature = i2osp key.len (os2ip signature ^ key.exponent % value_of key.modulus.reducer)
+recovered key signature = i2osp key.len (os2ip signature ^ key.exponent % key.modulus.value)
 
 -- RSASSA-PKCS1-v1_5-VERIFY: the signature is as long as the modulus and below it, and what is recovered is the encoded message (8.2.2)
 unfoldable pub verifies : PublicKey → HashFunction → List ℕ → List ℕ → Bool
 verifies key hash message signature =
-    nat_eq (length signature) key.len && nat_lt (os2ip signature) (value_of key.modulus.reducer) && bytes_eq (recovered key signature) (encoded key.len hash message)
+    nat_eq (length signature) key.len && nat_lt (os2ip signature) key.modulus.value && bytes_eq (recovered key signature) (encoded key.len hash message)
 
 -- RSASP1: a number to the private exponent, by the second form of a private key where the key has its primes, and by the first where not (5.2.1)
 abbrev pub private_root : PrivateKey → ℕ → ℕ
-private_root key m = root_of key.primes (value_of key.public.modulus.reducer) (os2ip key.exponent.items) m
+private_root key m = root_of key.primes key.public.modulus.value (os2ip key.exponent.items) m
 
 -- RSASSA-PKCS1-v1_5-SIGN (8.2.1)
 abbrev pub signature_of : PrivateKey → HashFunction → List ℕ → List ℕ

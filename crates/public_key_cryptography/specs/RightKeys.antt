@@ -1,6 +1,5 @@
 -- RSA keys whose numbers belong together (RFC 8017, section 3).
 use Rattle.std.specs.Prelude.{◌≡◌, ◌≢◌, ℕ, ◌-◌, ◌*◌, Option, Some, None}
-use Rattle.modular_arithmetic.specs.Moduli.{value_of}
 use Rattle.modular_arithmetic.specs.Naturals.{os2ip}
 use Rattle.public_key_cryptography.specs.OddPrimes.{IsCongruent, IsOddPrime}
 use Rattle.public_key_cryptography.specs.declared.private_key.PrivateKey.{PrivateKey}
@@ -35,10 +34,10 @@ pub record IsSecondForm (n e p q dP dQ qInv : ℕ) : Type 0 where
 -- a key's numbers belong together: those of its primes, where it has them, and else its exponents
 abbrev pub AreRight : Option Primes → ℕ → ℕ → ℕ → Type 0
 AreRight (Some primes) n e d =
-    IsSecondForm n e (value_of primes.first.modulus.reducer) (value_of primes.second.modulus.reducer)
+    IsSecondForm n e primes.first.modulus.value primes.second.modulus.value
     (os2ip primes.first.exponent.items) (os2ip primes.second.exponent.items) (os2ip primes.coefficient.items)
 AreRight None n e d = IsFirstForm n e d
 
 -- the key is right: it signs each message
 abbrev pub IsRight : PrivateKey → Type 0
-IsRight key = AreRight key.primes (value_of key.public.modulus.reducer) key.public.exponent (os2ip key.exponent.items)
+IsRight key = AreRight key.primes key.public.modulus.value key.public.exponent (os2ip key.exponent.items)

@@ -1,7 +1,6 @@
 //! Groups, and what two sides make in them.
-ghost use Rattle.std.specs.Prelude.{◌≡◌, ℕ, ◌*◌, ◌≤◌, List, IfOk, IsTrue};
+ghost use Rattle.std.specs.Prelude.{◌≡◌, ℕ, ◌≤◌, List, IfOk, IsTrue};
 ghost use Rattle.std.specs.Option.{option_map};
-ghost use Rattle.modular_arithmetic.specs.Moduli.{value_of};
 ghost use Rattle.public_key_cryptography.specs.Agreements.{group_of, in_range, octets_of, prime_of, public_of, shared_of, size_of};
 
 use crate::encoding::are_octets;
@@ -93,8 +92,8 @@ impl Group {
 
     /// The modulus that is the prime.
     fn modulus(self) -> Modulus
-        ensures room { size_of self ≤ 8 * result.reducer.len }
-        ensures value { value_of result.reducer ≡ prime_of self }
+        ensures room { size_of self ≤ result.size }
+        ensures value { result.value ≡ prime_of self }
     {
         Modulus::of(self.prime())
     }

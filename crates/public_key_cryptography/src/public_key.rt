@@ -1,6 +1,5 @@
 //! Public keys, and signatures that verify under them (RFC 8017, section 8.2.2).
-ghost use Rattle.std.specs.Prelude.{◌≡◌, ◌-◌, ◌*◌, ◌^◌, ◌<◌, ◌≤◌, length, nat_eq, slice_index, Some, MatchResult};
-ghost use Rattle.modular_arithmetic.specs.Moduli.{value_of};
+ghost use Rattle.std.specs.Prelude.{◌≡◌, ◌-◌, ◌^◌, ◌<◌, ◌≤◌, length, nat_eq, slice_index, Some, MatchResult};
 ghost use Rattle.modular_arithmetic.specs.Naturals.{os2ip};
 ghost use Rattle.public_key_cryptography.specs.Keys.{exponent_refusal, further_refusal, is_weak, refusal_of};
 
@@ -51,10 +50,10 @@ pub struct PublicKey {
     pub(crate) exponent: u64,
     ghost least: { 256 ≤ len },
     ghost most: { len ≤ 512 },
-    ghost room: { len ≤ 8 * modulus.reducer.len },
+    ghost room: { len ≤ modulus.size },
     ghost some: { 0 < exponent },
-    ghost fits: { value_of modulus.reducer < 256 ^ len },
-    ghost high: { 256 ^ (len - 1) ≤ value_of modulus.reducer },
+    ghost fits: { modulus.value < 256 ^ len },
+    ghost high: { 256 ^ (len - 1) ≤ modulus.value },
 }
 
 /// Whether a modulus has fewer than 2,048 bits.

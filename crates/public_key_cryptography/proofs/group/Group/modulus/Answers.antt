@@ -11,6 +11,6 @@ of-requires c = ap refusal_of c.prime.ensures ∙ never_refused c.args.self
 pub returns : goal.returns
 unfolding prime_of
 returns c = record {
-  room = omega (arith, c.of.ensures.len, ap length c.prime.ensures, sized c.args.self);
+  room = omega (arith, c.of.ensures.size, ap length c.prime.ensures, sized c.args.self);
   value = c.of.ensures.value ∙ ap os2ip c.prime.ensures;
 }

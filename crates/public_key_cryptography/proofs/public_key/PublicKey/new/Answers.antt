@@ -20,7 +20,7 @@ invariant_of-result c =
     record {
       least = omega (arith, parts.strong);
       most = omega (arith, small.most);
-      room = omega (arith, c.in-Ok.ensures.len);
+      room = omega (arith, c.in-Ok.ensures.size);
       some = omega (arith, parts.great, c.exponent_of-exponent.ensures);
       fits = omega (arith, c.in-Ok.ensures.value, modulus-below n c.are_octets.ensures);
       high = omega (arith, c.in-Ok.ensures.value, modulus-high n c.in-Ok.ensures.taken);
