@@ -7,7 +7,6 @@ use Rattle.x509_keys.specs.SignedBy.{signed_by}
 use Rattle.x509_keys.specs.declared.functions.Signed.{Signed}
 use Rattle.x509_keys.specs.declared.rsa_private_key.RsaPrivateKey.{RsaPrivateKey}
 use Rattle.x509_keys.specs.declared.rsa_public_key.RsaPublicKey.{RsaPublicKey}
-use Rattle.modular_arithmetic.specs.Moduli.{value_of}
 use Rattle.modular_arithmetic.specs.Naturals.{i2osp, os2ip}
 use Rattle.public_key_cryptography.specs.Pkcs1.{encoded, signature_of}
 use Rattle.public_key_cryptography.specs.Primes.{ArePrimesOf, root_of}
@@ -59,17 +58,17 @@ pair-at e d p q e2 d2 p2 q2 e_is d_is p_is q_is h =
 
 -- the numbers of primes, which are the private key's
 module _ (key : RsaPrivateKey) (primes : Primes) (numbers : PrimeNumbers) (are : AreNumbersOf key numbers) (have : ArePrimesOf primes numbers) where
-  first-is : value_of primes.first.modulus.reducer ≡ number_of key.prime_1
+  first-is : primes.first.modulus.value ≡ number_of key.prime_1
   first-is = primes.first.value ∙ ap (λ octets. os2ip octets.items) have.prime1 ∙ ap (λ octets. os2ip octets) are.prime1
 
-  second-is : value_of primes.second.modulus.reducer ≡ number_of key.prime_2
+  second-is : primes.second.modulus.value ≡ number_of key.prime_2
   second-is = primes.second.value ∙ ap (λ octets. os2ip octets.items) have.prime2 ∙ ap (λ octets. os2ip octets) are.prime2
 
   second-form : (n e : ℕ) → n ≡ number_of key.modulus → e ≡ number_of key.public_exponent → IsRightKey key
-      → IsSecondForm n e (value_of primes.first.modulus.reducer) (value_of primes.second.modulus.reducer)
+      → IsSecondForm n e primes.first.modulus.value primes.second.modulus.value
       (os2ip primes.first.exponent.items) (os2ip primes.second.exponent.items) (os2ip primes.coefficient.items)
   second-form n e n_is e_is right =
-      second-at n e (value_of primes.first.modulus.reducer) (value_of primes.second.modulus.reducer)
+      second-at n e primes.first.modulus.value primes.second.modulus.value
       (os2ip primes.first.exponent.items) (os2ip primes.second.exponent.items) (os2ip primes.coefficient.items)
       (number_of key.modulus) (number_of key.public_exponent) (number_of key.prime_1) (number_of key.prime_2)
       (number_of key.exponent_1) (number_of key.exponent_2) (number_of key.coefficient) n_is e_is first-is second-is
@@ -80,10 +79,10 @@ module _ (key : RsaPrivateKey) (primes : Primes) (numbers : PrimeNumbers) (are :
   second-root : (n e d m : ℕ) → n ≡ number_of key.modulus → e ≡ number_of key.public_exponent → d ≡ number_of key.private_exponent → IsRightKey key
       → root_of (Some primes) n d m ≡ m ^ d % n
   second-root n e d m n_is e_is d_is right =
-      one_root n e d (value_of primes.first.modulus.reducer) (value_of primes.second.modulus.reducer)
+      one_root n e d primes.first.modulus.value primes.second.modulus.value
       (os2ip primes.first.exponent.items) (os2ip primes.second.exponent.items) (os2ip primes.coefficient.items) m
       (second-form n e n_is e_is right)
-      (pair-at e d (value_of primes.first.modulus.reducer) (value_of primes.second.modulus.reducer)
+      (pair-at e d primes.first.modulus.value primes.second.modulus.value
       (number_of key.public_exponent) (number_of key.private_exponent) (number_of key.prime_1) (number_of key.prime_2) e_is d_is first-is second-is right.pair)
 
 right-at : (key : RsaPrivateKey) (primes : Option Primes) (n e d : ℕ) → n ≡ number_of key.modulus → e ≡ number_of key.public_exponent → d ≡ number_of key.private_exponent
@@ -103,7 +102,7 @@ root-at key (Some primes) n e d m n_is e_is d_is right h = second-root key prime
 root-at key None n e d m n_is e_is d_is right h = refl
 
 module _ (own : OwnKey) (key : RsaPrivateKey) (is : IsOwnKeyOf key own) (right : IsRightKey key) where
-  modulus-is : value_of own.private.public.modulus.reducer ≡ number_of key.modulus
+  modulus-is : own.private.public.modulus.value ≡ number_of key.modulus
   modulus-is = own.value ∙ ap (λ (public : RsaPublicKey). number_of public.modulus) is.public
 
   exponent-is : own.private.public.exponent ≡ number_of key.public_exponent
@@ -117,13 +116,13 @@ module _ (own : OwnKey) (key : RsaPrivateKey) (is : IsOwnKeyOf key own) (right :
 
   pub right-own : IsRight own.private
   right-own =
-      right-at key own.private.primes (value_of own.private.public.modulus.reducer) own.private.public.exponent (os2ip own.private.exponent.items)
+      right-at key own.private.primes own.private.public.modulus.value own.private.public.exponent (os2ip own.private.exponent.items)
       modulus-is exponent-is private-is right is.primes
 
   signature-is : (text : Bytes) → signature_of own.private Sha256 text ≡ signature_by key text
   signature-is text =
       ap (λ root. i2osp own.private.public.len root)
-      (root-at key own.private.primes (value_of own.private.public.modulus.reducer) own.private.public.exponent (os2ip own.private.exponent.items)
+      (root-at key own.private.primes own.private.public.modulus.value own.private.public.exponent (os2ip own.private.exponent.items)
       (os2ip (encoded own.private.public.len Sha256 text)) modulus-is exponent-is private-is right is.primes)
       ∙ (λ i. i2osp (len-is i) (os2ip (encoded (len-is i) Sha256 text) ^ private-is i % modulus-is i))
 

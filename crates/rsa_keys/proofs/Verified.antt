@@ -11,7 +11,6 @@ use Rattle.x509_algorithms.specs.Arcs.{octet_behind}
 use Rattle.x509_algorithms.specs.AlgorithmClasses.{pkcs1}
 use Rattle.x509_keys.specs.declared.subject_public_key_info.SubjectPublicKeyInfo.{SubjectPublicKeyInfo}
 use Rattle.modular_arithmetic.specs.Naturals.{i2osp, os2ip}
-use Rattle.modular_arithmetic.specs.Moduli.{value_of}
 use Rattle.public_key_cryptography.specs.Keys.{refusal_of}
 use Rattle.public_key_cryptography.specs.Pkcs1.{IsKeyOf, encoded, signature_of, verifies}
 use Rattle.public_key_cryptography.specs.declared.hash.HashFunction.{HashFunction}
@@ -28,7 +27,7 @@ use Rattle.rsa_keys.specs.declared.refusal.RsaKeyRefusal.TheVariants.{NegativeNu
 use Rattle.rsa_keys.specs.declared.own_key.OwnKey.{OwnKey}
 
 -- a key verifies by its numbers
-pub by_its_numbers : (key : PublicKey) (n e : List ℕ) (hash : HashFunction) (message signature : Bytes) → key.len ≡ length n → key.exponent ≡ os2ip e → value_of key.modulus.reducer ≡ os2ip n
+pub by_its_numbers : (key : PublicKey) (n e : List ℕ) (hash : HashFunction) (message signature : Bytes) → key.len ≡ length n → key.exponent ≡ os2ip e → key.modulus.value ≡ os2ip n
     → verifies key hash message signature ≡ is_valid n e hash message signature
 unfolding verifies
 by_its_numbers key n e hash message signature len exponent value =

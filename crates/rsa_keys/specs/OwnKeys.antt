@@ -6,7 +6,6 @@ use Rattle.picky_asn1.specs.Integer.{unsigned_octets}
 use Rattle.x509_oids.specs.Identifiers as oids
 use Rattle.x509_keys.specs.declared.rsa_public_key.RsaPublicKey.{RsaPublicKey}
 use Rattle.x509_keys.specs.declared.signature_algorithm.SignatureAlgorithm.{SignatureAlgorithm}
-use Rattle.modular_arithmetic.specs.Moduli.{value_of}
 use Rattle.modular_arithmetic.specs.Naturals.{os2ip}
 use Rattle.public_key_cryptography.specs.Keys.{refusal_of}
 use Rattle.public_key_cryptography.specs.declared.public_key.PublicKey as arithmetic
@@ -28,7 +27,7 @@ pub record IsUsable (made : arithmetic.PublicKey) (key : RsaPublicKey) : Type 0 
   pub taken : IsTrue (is_taken key)
   pub len : made.len ≡ length (unsigned_octets key.modulus)
   pub exponent : made.exponent ≡ os2ip (unsigned_octets key.public_exponent)
-  pub value : value_of made.modulus.reducer ≡ os2ip (unsigned_octets key.modulus)
+  pub value : made.modulus.value ≡ os2ip (unsigned_octets key.modulus)
 
 abbrev pub refusal_in : Result Numbers RsaKeyRefusal → Option RsaKeyRefusal
 refusal_in (Ok numbers) = option_map refusal_named (refusal_of numbers.0 numbers.1)

@@ -2,7 +2,6 @@
 ghost use Rattle.std.specs.Prelude.{◌≡◌, length, IfOk, IsTrue, MatchResult, None, Some, if◌then◌else◌};
 ghost use Rattle.std.specs.Option.{option_map};
 ghost use Rattle.picky_asn1.specs.Integer.{unsigned_octets};
-ghost use Rattle.modular_arithmetic.specs.Moduli.{value_of};
 ghost use Rattle.modular_arithmetic.specs.Naturals.{os2ip};
 ghost use Rattle.public_key_cryptography.specs.Keys.{refusal_of};
 ghost use Rattle.public_key_cryptography.specs.Pkcs1.{IsKeyOf};
@@ -29,7 +28,7 @@ pub struct OwnKey {
     pub ghost taken: { IsTrue (is_taken public) },
     pub ghost len: { private.public.len ≡ length (unsigned_octets public.modulus) },
     pub ghost exponent: { private.public.exponent ≡ os2ip (unsigned_octets public.public_exponent) },
-    pub ghost value: { value_of private.public.modulus.reducer ≡ os2ip (unsigned_octets public.modulus) },
+    pub ghost value: { private.public.modulus.value ≡ os2ip (unsigned_octets public.modulus) },
     pub ghost sha256: { IsTrue (is_sha256 algorithm) },
 }
 
