@@ -1,5 +1,5 @@
 -- Texts between boundaries.
-use Rattle.std.proofs.Common.{◌≡◌, inr, ⊎_elim, ℕ, ◌+◌, ◌-◌, ◌≤◌, ◌<◌, Bool, true, false, List, ◌++◌, length, take, drop, Result, Ok, Err, MatchResult, refl, sym, ap, ◌∙◌, subst, arith}
+use Rattle.std.proofs.Common.{◌≡◌, inr, ⊎_elim, ℕ, ◌+◌, ◌≤◌, ◌<◌, Bool, true, false, List, ◌++◌, length, take, drop, Result, Ok, Err, MatchResult, refl, sym, ap, ◌∙◌, subst, arith}
 use Rattle.std.proofs.Common.{length-append, length-drop, drop_at}
 use Rattle.std.specs.Bool.{MatchBool}
 use Rattle.std.specs.Str.{IsUtf8}
@@ -8,7 +8,7 @@ use lib.Seq.{take-append_seam, drop-append_seam}
 use Rattle.asn1_der.proofs.Elements.{fronts}
 use Rattle.memchr.specs.Find.{OccursAt, Nowhere, NoneBefore}
 use Rattle.memchr.proofs.lemmas.MatchLemmas.{OccursAt-from_part, OccursAt-split}
-use Rattle.x509_certificates.specs.Pem.{Divides, Encloses, HasNone, IsAbsent, IsDecoded, IsEnded, IsFound, IsNoBase64, IsNotFound, IsPem, IsUndecoded, begin_of, end_of}
+use Rattle.x509_certificates.specs.Pem.{Divides, Encloses, HasNone, IsAbsent, IsDecoded, IsEnded, IsFound, IsNotFound, IsPem, IsUndecoded, begin_of, end_of}
 use Rattle.x509_certificates.specs.declared.pem.TheConstants.{BEGIN}
 use Rattle.x509_certificates.specs.declared.fault.FileFault.{FileFault}
 use Rattle.x509_certificates.specs.declared.fault.FileFault.TheVariants.{NotEnded}

@@ -2,7 +2,8 @@
 //! signed data (RFC 2985, section 5; RFC 5652, section 11). Files of certificates and of private RSA keys: DER, or PEM (RFC 7468).
 //!
 //! [`certificate_in`] finds the DER of a certificate, and [`private_key_in`] reads a private key of PKCS#8 (RFC 5958) or PKCS#1 (RFC
-//! 8017). A file that is text in UTF-8 is PEM, and any other is DER as a whole. An encrypted key is refused by name.
+//! 8017). A file is PEM if `-----BEGIN ` is in it, or if it is text in UTF-8. Any other is DER as a whole. An encrypted key is refused by
+//! name.
 //!
 //! Each type is read from each accepted spelling, its deviations are counted, and it is written in DER (`Spelled`). The value of an
 //! extension and those of an attribute have the type that the identifier decides. An unknown extension keeps its octets, and the values of
