@@ -1,4 +1,4 @@
--- A client asked for the further ticket that a TGS exchange grants.
+-- A client asked for the service ticket that a TGS exchange grants.
 use Rattle.std.proofs.Common.{◌≡◌, ℕ, ◌%◌, Bool, true, false, not, List, Option, None, Some, Result, Ok, refl, sym, ap, subst, ◌∙◌, inr}
 use Rattle.std.proofs.lemmas.Bool.{and_parts}
 use Rattle.asn1_leaves.specs.GeneralizedTime.{seconds_of}

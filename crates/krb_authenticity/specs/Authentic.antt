@@ -114,11 +114,11 @@ pub record IsAuthentic (rows : PkinitRows) (keys : List Bytes) (exchanges : List
   pub client : WasAuthenticated rows keys exchanges sent admission.realm admission.client admission.authtime
   pub asked : IsAmong admission.session.key_value.0 keys → IsAskedFirst sent admitted admission after
 
--- the body of a request for a further ticket
+-- the body of a request for a service ticket
 abbrev pub body_sent : FurtherRequest → KdcReqBody
 body_sent request = further_body request.client request.suites request.service request.till (nonce_of request.words)
 
--- a client asked for the further ticket that an exchange grants, at a moment near now; the body that the realm read has the checksum of the
+-- a client asked for the service ticket that an exchange grants, at a moment near now; the body that the realm read has the checksum of the
 -- body that the client wrote
 pub record IsFurtherAsked (sent : SentRecord) (exchange : ExchangeRecord) (grant : GrantRecord) (asked : KdcReq) : Type 0 where
   pub request : FurtherRequest

@@ -46,7 +46,7 @@ pub record FirstRequest : Type 0 where
   pub words : Random
   pub bytes : Bytes
 
--- a client's request for a further ticket, by a ticket that it has; it lists these suites
+-- a client's request for a service ticket, by a ticket that it has; it lists these suites
 pub record FurtherRequest : Type 0 where
   pub client : ClientRecord
   pub suites : List CipherSuite
@@ -96,7 +96,7 @@ pub record IsFurtherSent (request : FurtherRequest) : Type 0 where
   pub named : IsClient request.client
   pub asks : AsksTgsOfSuites request.client request.suites request.credential request.service request.till request.moment request.words request.bytes
 
--- the authenticator has the client's realm and name, tells the moment, and has an encoding
+-- the authenticator has the client's realm, name and moment, and has an encoding
 pub record IsOfClient (client : ClientRecord) (moment : Micros) (authenticator : AuthenticatorInner) : Type 0 where
   pub realm : authenticator.crealm.0 ≡ client.realm
   pub name : components authenticator.cname.0 ≡ client.components

@@ -100,7 +100,7 @@ unfolding as_request_bytes
 as_request_written padata client suites service till words bytes realm name of_service e =
     (whole_as_request padata client suites service till words realm name of_service, e)
 
--- the request for a further ticket
+-- the request for a service ticket
 whole_tgs_request : (client : ClientRecord) (suites : List CipherSuite) (service : List Bytes) (till : GeneralizedTime) (nonce : ℕ) (shown : Bytes)
     → is_general_string client.realm ≡ true → are_texts service ≡ true → IsWhole (tgs_req_tree (further_request client suites service till nonce shown))
 whole_tgs_request client suites service till nonce shown realm of_service = (
