@@ -1,5 +1,6 @@
 //! Services that admit AP requests, whichever keys they have.
 ghost use Rattle.std.specs.Prelude.{◌≡◌, ◌≤◌, length};
+ghost use Rattle.krb_time.specs.Skew.{IsWithinDay};
 ghost use Rattle.krb_service.specs.Admits.{Admits};
 ghost use Rattle.krb_service.specs.ApReply.{random_size};
 ghost use Rattle.krb_service.specs.KeytabService.{KeytabServiceRecord};
@@ -17,9 +18,10 @@ pub trait Admitter {
     // The service as one of a keytab: that of one key has its entry alone.
     ghost as_keytab: { Self → KeytabServiceRecord };
 
-    /// The clock skew in microseconds.
+    /// The clock skew in microseconds, at most a day.
     fn clock_skew(&self) -> u64
-        ensures { result ≡ (as_keytab self.now).seen.skew };
+        ensures skew { result ≡ (as_keytab self.now).seen.skew }
+        ensures bound { IsWithinDay result };
 
     /// Admits an AP request at a moment, or refuses it (RFC 4120, section 3.2.3), with these fields in the AP-REP. The greatest moment that
     /// was ever handed in judges it. `words`: random bytes, of which the first 16 count; with a subkey and a number 64.

@@ -12,7 +12,7 @@ returns g c =
       | in-Ok w ↦
           rw w.result-is
           (by_admission inside c.args.self.now (seen_as c.admit_request.new.self) _ _ c.args.moment c.args.request.now c.args.words.now w.in-Ok.admission w.established_by.result c.self.view_is fields
-          c.clock_skew-skew.ensures w.in-Ok.ensures w.established_by.ensures)
+          c.clock_skew-skew.ensures.skew w.in-Ok.ensures w.established_by.ensures)
       | in-Err w ↦
           rw w.result-is
           (by_cause inside c.args.self.now (seen_as c.admit_request.new.self) _ c.args.moment c.args.request.now c.args.words.now w.in-Err.cause c.self.view_is fields w.in-Err.ensures)
