@@ -95,13 +95,28 @@ pub fn means_of(alloc: Global, parts: PkinitParts<'_>) -> Result<PkinitMeans, Pk
         (IsNoMeans parts.entry.certificate.now parts.entry.key.now parts.entry.anchor.now) }
 {
     let own = own_pair(alloc, parts.certificate, parts.key)?;
+    match trust_of(alloc, parts) {
+        Ok((anchor, certificate)) => Ok(PkinitMeans {
+            anchor,
+            certificate,
+            keys: RsaKeys::new(Group::Modp2048, Some(own)),
+        }),
+        Err(fault) => {
+            drop(own);
+            Err(fault)
+        }
+    }
+}
+
+// Returns the anchor, and a copy of the KDC's certificate.
+fn trust_of(alloc: Global, parts: PkinitParts<'_>) -> Result<(Anchor, Vec<u8>), PkinitFault>
+    ensures { MatchResult result
+        (λ trust. IsHolder parts.entry.anchor.now trust.0 × (trust.1.items ≡ parts.entry.certificate.now))
+        (λ fault. (fault ≡ PkinitFault.Memory) ⊎ ((fault ≡ PkinitFault.Anchor) × IsNoHolder parts.entry.anchor.now)) }
+{
     let anchor = holder_in(alloc, parts.anchor, PkinitFault::Anchor)?;
     let certificate = octets_of(alloc, parts.certificate)?;
-    Ok(PkinitMeans {
-        anchor,
-        certificate,
-        keys: RsaKeys::new(Group::Modp2048, Some(own)),
-    })
+    Ok((anchor, certificate))
 }
 
 fn octets_of(alloc: Global, octets: &[u8]) -> Result<Vec<u8>, PkinitFault>
