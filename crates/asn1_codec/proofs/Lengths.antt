@@ -10,7 +10,7 @@ use Rattle.asn1_der.proofs.Digits.{digits-is, digits-step, digits-zero}
 use Rattle.asn1_der.proofs.Elements.{fronts, length_octets-short, length_octets-long, length_octets-first, following_digits, element-parts}
 use Rattle.asn1_der.specs.declared.error.Asn1DerError.{Asn1DerError}
 use Rattle.asn1_der.specs.declared.error.Asn1DerError.TheVariants.{TruncatedData, InvalidData}
-use Rattle.asn1_codec.specs.Lengths.{AreLengthOctets, IsWanting}
+use Rattle.asn1_codec.specs.Lengths.{AreLengthOctets, IsFollowing, IsWanting}
 
 -- digits write the number that they were read as, where the first isn't zero
 digits_behind : (n : ℕ) (ds : List ℕ) → 0 < n → AllBelowBase 256 ds → digits (number_from_digits_after 256 n ds) ≡ digits n ++ ds
@@ -92,10 +92,6 @@ pub no_length : (first : ℕ) (tail : List ℕ) → ((n : ℕ) → n < 2 ^ 64 �
 no_length first tail none more bytes rest (count, small, is) e =
     let parts = length_begins count first tail rest more (e ∙ ap (λ l. l ++ rest) is) in
     none count small parts.0 parts.1
-
--- how many octets follow the first, by what is asked of `following`
-abbrev pub IsFollowing : ℕ → ℕ → Type 0
-IsFollowing first more = (more ≤ 8) × ((n : ℕ) (rest : List ℕ) → length_octets n ≡ first ∷ rest → length rest ≡ more)
 
 one_more : (m n : ℕ) → m ≡ n → suc m ≡ 1 + n
 one_more m n same = omega arith

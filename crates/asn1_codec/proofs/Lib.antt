@@ -7,9 +7,11 @@ pub mod Cuts
 pub mod ElementWrites
 pub mod FieldsLemmas
 pub mod Headers
+pub mod HeldLemmas
 pub mod Leaves
 pub mod Lengths
 pub mod NamedLemmas
+pub mod NextEnds
 pub mod PairLemmas
 pub mod ReadsLemmas
 pub mod Results

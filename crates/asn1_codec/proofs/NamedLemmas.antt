@@ -16,7 +16,7 @@ use Rattle.asn1_codec.specs.Reads.{Gives, BeginsBy, ReadsFront, ReadsWhole}
 use Rattle.asn1_codec.proofs.Lengths.{element_joined}
 
 -- a header and its content are the element
-whole_text : (first count : ℕ) (content : List ℕ) → length content ≡ count → first ∷ (length_octets count ++ content) ≡ element first content
+pub whole_text : (first count : ℕ) (content : List ℕ) → length content ≡ count → first ∷ (length_octets count ++ content) ≡ element first content
 whole_text first count content size =
     ap (λ l. first ∷ (length_octets count ++ l)) (sym (append-nil content)) ∙ element_joined first count content [] size ∙ append-nil (element first content)
 
@@ -25,7 +25,7 @@ pub nothing_inside : EndsInside []
 nothing_inside = (element 0 [], 0, [], omega (arith, length-element 0 []), omega arith, refl)
 
 -- so does a content that is too short
-count_inside : (first count : ℕ) (held : List ℕ) → count < 2 ^ 64 → length held < count → EndsInside (first ∷ (length_octets count ++ held))
+pub count_inside : (first count : ℕ) (held : List ℕ) → count < 2 ^ 64 → length held < count → EndsInside (first ∷ (length_octets count ++ held))
 count_inside first count held small short =
     let zeros : List ℕ = replicate (count - length held) 0 in
     let many : length zeros ≡ count - length held = length-replicate {A = ℕ} (count - length held) 0 in
@@ -37,7 +37,7 @@ count_inside first count held small short =
     (zeros, first, content, omega arith, omega arith, text)
 
 -- and a length that isn't whole
-length_inside : (first : ℕ) (behind : List ℕ) → IsWanting AreLengthOctets behind TruncatedData → EndsInside (first ∷ behind)
+pub length_inside : (first : ℕ) (behind : List ℕ) → IsWanting AreLengthOctets behind TruncatedData → EndsInside (first ∷ behind)
 length_inside first behind (more, (count, small, is), some) =
     let zeros : List ℕ = replicate count 0 in
     let many : length zeros ≡ count = length-replicate {A = ℕ} count 0 in
@@ -54,7 +54,7 @@ length_outside first behind wants (more, other, content, some, small, e) =
     wants more (length_octets (length content)) (content ++ []) (length content, small, refl) (cc (parts))
 
 -- and not a whole element
-count_outside : (first count : ℕ) (held : List ℕ) → count ≤ length held → EndsInside (first ∷ (length_octets count ++ held)) → ⊥
+pub count_outside : (first count : ℕ) (held : List ℕ) → count ≤ length held → EndsInside (first ∷ (length_octets count ++ held)) → ⊥
 count_outside first count held fits (more, other, content, some, small, e) =
     let body : List ℕ = take count held in
     let left : List ℕ = drop count held in
@@ -138,7 +138,7 @@ none_begins : {T : Type 0} (seen : Seen T) (reads : T → List ℕ → Type 0) (
 none_begins seen reads input fault hard (inl memory) value begins = is_memory (Err fault) fault hard refl memory
 none_begins seen reads input fault hard (inr each) value begins = no_gift seen fault value ((each value).1 begins)
 
-none_is : {T : Type 0} (seen : Seen T) (reads : T → List ℕ → Type 0) (input : List ℕ) (fault : Asn1DerError) → is_excuse fault ≡ false
+pub none_is : {T : Type 0} (seen : Seen T) (reads : T → List ℕ → Type 0) (input : List ℕ) (fault : Asn1DerError) → is_excuse fault ≡ false
     → ReadsWhole seen reads input (Err fault) → (value : T) → reads value input → ⊥
 none_is seen reads input fault hard (inl memory) value read = is_memory (Err fault) fault hard refl memory
 none_is seen reads input fault hard (inr each) value read = no_gift seen fault value ((each value).1 read)

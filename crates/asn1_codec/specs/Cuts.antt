@@ -1,8 +1,9 @@
 -- What reading a value from a source answers, by the bytes of the source alone.
 use Rattle.std.specs.Io.KnownBytes.{Consumes}
-use Rattle.std.specs.Prelude.{◌≡◌, ℕ, ◌≤◌, List, ◌++◌, length, Option, Some, ⊤, ◌⊎◌, Result, Ok, Err, MatchResult}
+use Rattle.std.specs.Prelude.{◌≡◌, ℕ, ◌≤◌, List, ◌++◌, length, take, Option, Some, IfSome, ⊤, ◌⊎◌, Result, Ok, Err, MatchResult}
 use Rattle.asn1_der.specs.declared.error.Asn1DerError.{Asn1DerError}
 use Rattle.asn1_der.specs.Seen.{Seen, Alike}
+use Rattle.asn1_codec.specs.Named.{TellsEnd}
 use Rattle.asn1_codec.specs.Reads.{Gives}
 use Rattle.asn1_codec.specs.Reading.{IsExcuse, IsNotNext, IsReadBy}
 
@@ -19,6 +20,10 @@ TakesNext reads limit old new value =
 -- memory ran out, the source failed, or no such bytes are next
 abbrev pub MissesNext : {T : Type 0} → (T → List ℕ → Type 0) → ℕ → Option (List ℕ) → Asn1DerError → Type 0
 MissesNext reads limit old fault = IsExcuse fault ⊎ IsNotNext (IsReadBy reads) old limit
+
+-- what a fault says of the end of what is left, up to the limit, if that is known
+abbrev pub TellsNext : {T : Type 0} → (T → List ℕ → Type 0) → ℕ → Option (List ℕ) → Asn1DerError → Type 0
+TellsNext reads limit left fault = IfSome left (λ input. TellsEnd reads (take limit input) fault)
 
 -- memory ran out, or the source failed
 abbrev pub IsExcused : {T : Type 0} → Result T Asn1DerError → Type 0

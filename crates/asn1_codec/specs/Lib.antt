@@ -6,6 +6,7 @@ pub mod CharacterLaws
 pub mod Characters
 pub mod Cuts
 pub mod Ends
+pub mod Held
 pub mod Lengths
 pub mod Named
 pub mod Nulls

@@ -5,7 +5,7 @@ ghost use Rattle.std.specs.Io.KnownBytes.{Consumes};
 ghost use Rattle.asn1_der.specs.Tree.{Tree, Trees, none, more, bare, IsWhole, AreWhole, wrapped, behind, der, ders};
 ghost use Rattle.asn1_der.specs.Length.{element, length_octets};
 ghost use Rattle.asn1_der.specs.Firsts.{may_begin};
-ghost use Rattle.asn1_codec.specs.Cuts.{TakesNext, MissesNext};
+ghost use Rattle.asn1_codec.specs.Cuts.{TakesNext, MissesNext, TellsNext};
 ghost use Rattle.asn1_codec.specs.Named.{TellsEnd, TellsWholeEnd};
 ghost use Rattle.asn1_codec.specs.Reads.{ReadsFront, ReadsWhole};
 ghost use Rattle.asn1_codec.specs.Tails.{IsLengthTail, TookTail};
@@ -13,6 +13,7 @@ ghost use Rattle.asn1_codec.specs.Reading.{TookValue, TookBy, Refused, IsOwn, Is
 
 use crate::fields::Fields;
 use crate::input_end::named;
+use crate::one_element::read_element;
 use crate::row::Row1;
 use crate::ser::Serialize;
 use asn1_der::{Asn1DerError, Content, MOST_IN_PLACE, following, length_of};
@@ -563,18 +564,24 @@ fn whole_value<T: FromDer>(alloc: Global, input: &[u8]) -> Result<T, Asn1DerErro
     answer
 }
 
-/// Reads the value whose spelling comes next from `reader`, of at most 10,240 bytes, and takes just these.
+/// Reads the value whose spelling comes next from `reader`, of at most 10,240 bytes, and takes just these. See
+/// [`from_reader_with_max_len`] for its faults.
 pub fn from_reader<T: FromDer, R: Source>(alloc: Global, reader: &mut R) -> Result<T, Asn1DerError>
     ensures value { IfOk result (TakesNext T.reads MOST_BYTES (R.left reader.old) (R.left reader.new)) }
     ensures fault { IfErr result (MissesNext T.reads MOST_BYTES (R.left reader.old)) }
     ensures count { R.failed reader.new ≡ result_faults result (R.failed reader.old) }
     ensures kind { IfErr result (λ fault. TellsKind fault (R.last_fault reader.new)) }
     ensures same { R.through reader.new ≡ R.through reader.old }
+    ensures end { IfErr result (TellsNext T.reads MOST_BYTES (R.left reader.old)) }
 {
     from_reader_with_max_len(alloc, reader, MOST_BYTES)
 }
 
 /// Reads the value whose spelling comes next from `reader`, of at most `limit` bytes, and takes just these.
+///
+/// It takes one element into memory, and reads the value in it. `TruncatedData` is the fault only where what the reader has left, up to
+/// the limit, ends inside an element. After another fault nothing that follows makes it begin with a value, unless memory ran out or
+/// the reader failed.
 pub fn from_reader_with_max_len<T: FromDer, R: Source>(
     alloc: Global,
     reader: &mut R,
@@ -585,12 +592,10 @@ pub fn from_reader_with_max_len<T: FromDer, R: Source>(
     ensures count { R.failed reader.new ≡ result_faults result (R.failed reader.old) }
     ensures kind { IfErr result (λ fault. TellsKind fault (R.last_fault reader.new)) }
     ensures same { R.through reader.new ≡ R.through reader.old }
+    ensures end { IfErr result (TellsNext T.reads limit (R.left reader.old)) }
 {
-    let mut from = Deserializer::new_from_reader(alloc, reader, limit);
-    let value = T::read_from(&mut from);
-    let back = from.into_reader();
-    let _ = &*back;
-    value
+    let element = read_element(alloc, reader, limit)?;
+    from_exact_bytes(alloc, element.as_slice())
 }
 
 /// Reads a value, behind which nothing is left up to the limit.

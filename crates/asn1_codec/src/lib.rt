@@ -7,8 +7,9 @@
 //! [`from_bytes`] answers a value if and only if the input begins with bytes that the type reads as it, and [`from_exact_bytes`] if and
 //! only if the input is such bytes. Of a [`Deserialize`] type these are the value's one encoding. Their fault is `TruncatedData` exactly where
 //! the input ends inside an element. After another fault of DER no continuation is read. [`from_reader`] takes just the bytes of
-//! the value, within its limit. By the law [`one_reading`] its answer is independent of the reader's cuts, device faults aside. [`to_vec`],
-//! [`to_bytes`], [`to_byte_buf`] and [`to_writer`] write the encoding, and refuse what the type refuses.
+//! the value, within its limit, and its fault says the same of what the reader has left up to the limit. By the law [`one_reading`] its
+//! answer is independent of the reader's cuts, device faults aside. [`to_vec`], [`to_bytes`], [`to_byte_buf`] and [`to_writer`] write the
+//! encoding, and refuse what the type refuses.
 #![tactic(auto)]
 
 ghost use Rattle.std.specs.Prelude.{◌≡◌};
@@ -26,6 +27,7 @@ mod leaf;
 mod measure;
 mod null;
 mod octet_pair;
+mod one_element;
 mod option;
 mod optional;
 mod reading_calls;
