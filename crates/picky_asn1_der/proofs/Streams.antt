@@ -5,9 +5,9 @@ use Rattle.std.specs.Io.KnownBytes.{Consumes, IsAtEnd}
 use Rattle.std.proofs.KnownBytes.{Consumes-trans}
 use Rattle.asn1_der.specs.Length.{length_octets}
 use Rattle.asn1_der.proofs.Elements.{length_octets-first}
-use Rattle.asn1_codec.specs.Lengths.{AreLengthOctets, IsWanting}
+use Rattle.asn1_codec.specs.Lengths.{AreLengthOctets, IsFollowing, IsWanting}
 use Rattle.picky_asn1_der.specs.Streams.{IsNoOctet, IsWantingIn, IsWantingNext}
-use Rattle.asn1_codec.proofs.Lengths.{IsFollowing, no_octet, no_length, nothing}
+use Rattle.asn1_codec.proofs.Lengths.{no_octet, no_length, nothing}
 use Rattle.asn1_der.specs.declared.error.Asn1DerError.{Asn1DerError}
 use Rattle.asn1_der.specs.declared.error.Asn1DerError.TheVariants.{TruncatedData, InvalidData, UnsupportedValue, UnsupportedType, InvalidSink, Message, Other, Memory}
 
