@@ -68,6 +68,35 @@ fn limits(rt: HostRuntime) {
     assert!(rt; fits(alloc, 10_237, 10_240) == Some(false));
 }
 
+// Why a number isn't read from a reader of these octets, of which at most `limit` are taken.
+fn number_fault(alloc: Global, bytes: &[u8], limit: usize) -> Option<Asn1DerError> {
+    let mut reader = bytes;
+    from_reader_with_max_len::<u32, _>(alloc, &mut reader, limit).err()
+}
+
+// What is left ends inside an element, at its end or at the limit, or no element and then no number begins it.
+#[test]
+fn ends(rt: HostRuntime) {
+    let rows: &[(&[u8], usize, Asn1DerError)] = &[
+        (&[], 9, Asn1DerError::TruncatedData),
+        (&[2], 9, Asn1DerError::TruncatedData),
+        (&[4, 1], 9, Asn1DerError::TruncatedData),
+        (&[2, 0x82, 1], 9, Asn1DerError::TruncatedData),
+        (&[2, 1, 5], 0, Asn1DerError::TruncatedData),
+        (&[2, 1, 5], 1, Asn1DerError::TruncatedData),
+        (&[2, 1, 5], 2, Asn1DerError::TruncatedData),
+        (&[2, 0x80, 5], 9, Asn1DerError::InvalidData),
+        (&[2, 0x82, 0], 9, Asn1DerError::InvalidData),
+        (&[2, 0x82, 0, 1, 5], 3, Asn1DerError::InvalidData),
+        (&[4, 1, 5], 9, Asn1DerError::InvalidData),
+        (&[2, 5, 1, 0, 0, 0, 0], 9, Asn1DerError::UnsupportedValue),
+    ];
+    for (bytes, limit, fault) in rows {
+        let told = number_fault(rt.alloc(), bytes, *limit);
+        assert!(rt; told == Some(*fault), "at {bytes:?}");
+    }
+}
+
 fn is_dripped(alloc: Global, count: usize, sample: &Sample) -> bool {
     match Sample::deserialize(&mut drip_of(alloc, &LONG_SAMPLE, count)) {
         Ok(read) => read == *sample,
