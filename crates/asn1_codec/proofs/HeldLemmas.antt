@@ -18,7 +18,7 @@ use Rattle.asn1_codec.specs.Named.{IsAnElement, EndsInside, NeverBegins}
 use Rattle.asn1_codec.specs.Reading.{IsOwn, result_faults}
 use Rattle.asn1_codec.proofs.Chain.{own-faults}
 use Rattle.asn1_codec.proofs.Lengths.{nothing, no_octet, no_length}
-use Rattle.asn1_codec.proofs.NamedLemmas.{whole_text, nothing_inside, count_inside, length_inside}
+use Rattle.asn1_codec.proofs.NamedLemmas.{whole_text, nothing_inside, count_inside, length_inside, length_outside}
 
 -- ---- filling
 
@@ -151,13 +151,14 @@ never_length first behind wants more bytes rest small (other, content, is) e =
     let fits : length content < 2 ^ 64 = omega (arith, length-element other content, ap length is, small) in
     wants more (length_octets (length content)) (content ++ rest) (length content, fits, refl) (cc (parts))
 
-never_on : (front tail : List ℕ) → NeverBegins IsAnElement front → NeverBegins IsAnElement (front ++ tail)
-never_on front tail never more bytes rest small one e = never (tail ++ more) bytes rest small one (sym (append_assoc front tail more) ∙ e)
+never_on : (behind tail : List ℕ) → IsWanting AreLengthOctets behind InvalidData → IsWanting AreLengthOctets (behind ++ tail) InvalidData
+never_on behind tail wants more front rest p e = wants (tail ++ more) front rest p (sym (append_assoc behind tail more) ∙ e)
 
 never_held : (limit size first : ℕ) (held behind : List ℕ) → held ≡ first ∷ behind → IsWanting AreLengthOctets behind InvalidData
     → TellsHeld limit size held InvalidData
 never_held limit size first held behind is wants tail within ends =
-    subst (λ l. NeverBegins IsAnElement (l ++ tail)) (sym is) (never_on (first ∷ behind) tail (never_length first behind wants))
+    let on : IsWanting AreLengthOctets (behind ++ tail) InvalidData = never_on behind tail wants in
+    subst (λ l. TellsCut (l ++ tail) InvalidData) (sym is) (length_outside first (behind ++ tail) on, never_length first (behind ++ tail) on)
 
 -- no length octets begin with the second octet
 pub no_header : (limit first second : ℕ) (held behind rest : List ℕ) → held ≡ first ∷ behind → behind ≡ second ∷ rest

@@ -47,7 +47,7 @@ length_inside first behind (more, (count, small, is), some) =
     (more ++ zeros, first, zeros, omega arith, omega arith, text)
 
 -- but not what is no length
-length_outside : (first : ℕ) (behind : List ℕ) → IsWanting AreLengthOctets behind InvalidData → EndsInside (first ∷ behind) → ⊥
+pub length_outside : (first : ℕ) (behind : List ℕ) → IsWanting AreLengthOctets behind InvalidData → EndsInside (first ∷ behind) → ⊥
 length_outside first behind wants (more, other, content, some, small, e) =
     let parts : first ∷ (behind ++ more) ≡ other ∷ (length_octets (length content) ++ (content ++ [])) =
     e ∙ sym (append-nil (element other content)) ∙ element-parts other content [] in
@@ -143,7 +143,7 @@ pub none_is : {T : Type 0} (seen : Seen T) (reads : T → List ℕ → Type 0) (
 none_is seen reads input fault hard (inl memory) value read = is_memory (Err fault) fault hard refl memory
 none_is seen reads input fault hard (inr each) value read = no_gift seen fault value ((each value).1 read)
 
--- so another fault may stand in its place
+-- so the refusal may name another fault
 front_refused : {T : Type 0} (seen : Seen T) (reads : T → List ℕ → Type 0) (input : List ℕ) (fault : Asn1DerError) → ((value : T) → BeginsBy reads value input → ⊥)
     → ReadsFront seen reads input (Err fault)
 front_refused seen reads input fault none = inr (λ value. (λ e. absurd (cc (e)), λ begins. absurd (none value begins)))
@@ -173,8 +173,8 @@ final_own (Message rule) hard = tt
 final_own (Other kind) hard = absurd (false≢true (sym hard))
 final_own Memory hard = tt
 
-final_end : {T : Type 0} (reads : T → List ℕ → Type 0) (input : List ℕ) (fault : Asn1DerError) → is_excuse fault ≡ false → NeverBegins (IsReadBy reads) input
-    → TellsEnd reads input (as_final fault)
+final_end : {T : Type 0} (reads : T → List ℕ → Type 0) (input : List ℕ) (fault : Asn1DerError) → is_excuse fault ≡ false
+    → (EndsInside input → ⊥) × NeverBegins (IsReadBy reads) input → TellsEnd reads input (as_final fault)
 final_end reads input TruncatedData hard never = never
 final_end reads input InvalidData hard never = never
 final_end reads input UnsupportedValue hard never = never
@@ -184,8 +184,8 @@ final_end reads input (Message rule) hard never = never
 final_end reads input (Other kind) hard never = tt
 final_end reads input Memory hard never = tt
 
-final_whole : {T : Type 0} (reads : T → List ℕ → Type 0) (input : List ℕ) (fault : Asn1DerError) → is_excuse fault ≡ false → NeverIs (IsReadBy reads) input
-    → TellsWholeEnd reads input (as_final fault)
+final_whole : {T : Type 0} (reads : T → List ℕ → Type 0) (input : List ℕ) (fault : Asn1DerError) → is_excuse fault ≡ false
+    → (EndsInside input → ⊥) × NeverIs (IsReadBy reads) input → TellsWholeEnd reads input (as_final fault)
 final_whole reads input TruncatedData hard never = never
 final_whole reads input InvalidData hard never = never
 final_whole reads input UnsupportedValue hard never = never
@@ -207,7 +207,7 @@ named-front seen reads is_element input fault told read own (inr (hard, inl (is,
 named-front seen reads is_element input fault told read own (inr (hard, inr (is, outside))) =
     let none = none_begins seen reads input fault hard read in
     subst (λ f. ReadsFront seen reads input (Err f) × IsOwn f × TellsEnd reads input f) (sym is)
-    (front_refused seen reads input (as_final fault) none, final_own fault hard, final_end reads input fault hard (no_continuation reads is_element input outside none))
+    (front_refused seen reads input (as_final fault) none, final_own fault hard, final_end reads input fault hard (outside, no_continuation reads is_element input outside none))
 
 -- and of a whole input
 pub named-whole : {T : Type 0} (seen : Seen T) (reads : T → List ℕ → Type 0) → ((value : T) (bytes : List ℕ) → reads value bytes → IsAnElement bytes)
@@ -221,4 +221,4 @@ named-whole seen reads is_element input fault told read own (inr (hard, inl (is,
 named-whole seen reads is_element input fault told read own (inr (hard, inr (is, outside))) =
     let none = none_is seen reads input fault hard read in
     subst (λ f. ReadsWhole seen reads input (Err f) × IsOwn f × TellsWholeEnd reads input f) (sym is)
-    (whole_refused seen reads input (as_final fault) none, final_own fault hard, final_whole reads input fault hard (no_whole reads is_element input outside none))
+    (whole_refused seen reads input (as_final fault) none, final_own fault hard, final_whole reads input fault hard (outside, no_whole reads is_element input outside none))

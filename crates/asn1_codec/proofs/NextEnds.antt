@@ -41,7 +41,7 @@ module _ {T : Type 0} (reads : T → List ℕ → Type 0) (is_element : (value :
   cut_off limit input InvalidData small cut bytes rest (value, read) left within =
       let is : input ≡ bytes ++ rest = cc (left) in
       let front : take limit input ≡ bytes ++ take (limit - length bytes) rest = ap (take limit) is ∙ front_of limit bytes rest within in
-      cut [] bytes (take (limit - length bytes) rest) (omega (arith, within, small)) (is_element value bytes read) (append-nil (take limit input) ∙ front)
+      cut.1 [] bytes (take (limit - length bytes) rest) (omega (arith, within, small)) (is_element value bytes read) (append-nil (take limit input) ∙ front)
   cut_off limit input UnsupportedValue small cut bytes rest p left within = absurd cut
   cut_off limit input UnsupportedType small cut bytes rest p left within = absurd cut
   cut_off limit input InvalidSink small cut bytes rest p left within = absurd cut
@@ -51,7 +51,7 @@ module _ {T : Type 0} (reads : T → List ℕ → Type 0) (is_element : (value :
 
   cut_end : (front : List ℕ) (fault : Asn1DerError) → TellsCut front fault → TellsEnd reads front fault
   cut_end front TruncatedData cut = cut
-  cut_end front InvalidData cut = λ more bytes rest small p e. cut more bytes rest small (is_element p.0 bytes p.1) e
+  cut_end front InvalidData cut = (cut.0, λ more bytes rest small p e. cut.1 more bytes rest small (is_element p.0 bytes p.1) e)
   cut_end front UnsupportedValue cut = absurd cut
   cut_end front UnsupportedType cut = absurd cut
   cut_end front InvalidSink cut = absurd cut
@@ -92,19 +92,23 @@ module _ {T : Type 0} (reads : T → List ℕ → Type 0) (is_element : (value :
       let is : bytes ++ rest ≡ other ++ behind = cc (left) in
       only_element bytes rest one none [] other behind (omega (arith, within, small)) p (append-nil (bytes ++ rest) ∙ is)
 
-  never_front : (limit : ℕ) (bytes rest : List ℕ) → length bytes ≤ limit → IsAnElement bytes → ((value : T) → reads value bytes → ⊥)
-      → NeverBegins (IsReadBy reads) (take limit (bytes ++ rest))
-  never_front limit bytes rest fits one none =
-      subst (NeverBegins (IsReadBy reads)) (sym (front_of limit bytes rest fits)) (only_element bytes (take (limit - length bytes) rest) one none)
+  IsOff : List ℕ → Type 0
+  IsOff front = (EndsInside front → ⊥) × NeverBegins (IsReadBy reads) front
+
+  never_front : (limit : ℕ) (bytes rest : List ℕ) → limit < 2 ^ 64 → length bytes ≤ limit → IsAnElement bytes → ((value : T) → reads value bytes → ⊥)
+      → IsOff (take limit (bytes ++ rest))
+  never_front limit bytes rest small fits one none =
+      let tail : List ℕ = take (limit - length bytes) rest in
+      subst IsOff (sym (front_of limit bytes rest fits)) (element_outside bytes tail one (omega (arith, fits, small)), only_element bytes tail one none)
 
   never_next : (limit : ℕ) (left new : Option (List ℕ)) (bytes : List ℕ) → limit < 2 ^ 64 → Consumes left new bytes → length bytes ≤ limit → IsAnElement bytes
       → ((value : T) → reads value bytes → ⊥)
-      → IsNotNext (IsReadBy reads) left limit × IfSome left (λ input. NeverBegins (IsReadBy reads) (take limit input))
+      → IsNotNext (IsReadBy reads) left limit × IfSome left (λ input. IsOff (take limit input))
   never_next limit None new bytes small took fits one none = (λ other rest p left within. absurd (cc (left)), tt)
   never_next limit (Some input) None bytes small took fits one none = absurd took
   never_next limit (Some input) (Some rest) bytes small took fits one none = (
     subst (λ l. IsNotNext (IsReadBy reads) (Some l) limit) (sym took) (not_next limit bytes rest small one none),
-    subst (λ l. NeverBegins (IsReadBy reads) (take limit l)) (sym took) (never_front limit bytes rest fits one none),
+    subst (λ l. IsOff (take limit l)) (sym took) (never_front limit bytes rest small fits one none),
   )
 
   out_of_memory : (limit : ℕ) (left : Option (List ℕ)) → TellsNext reads limit left Memory

@@ -27,7 +27,7 @@ IsHeaderOf header size = (first count : ℕ) × (count < 2 ^ 64) × (header ≡ 
 -- why no whole element is read: the octets end inside one, or none begins them, whatever follows
 abbrev pub TellsCut : List ℕ → Asn1DerError → Type 0
 TellsCut front TruncatedData = EndsInside front
-TellsCut front InvalidData = NeverBegins IsAnElement front
+TellsCut front InvalidData = (EndsInside front → ⊥) × NeverBegins IsAnElement front
 TellsCut front fault = ⊥
 
 -- the same of the octets that are held and what may follow them up to the limit, which is nothing if they are fewer than `size`

@@ -44,19 +44,20 @@ NeverBegins P input = (more bytes rest : List ℕ) → length bytes < 2 ^ 64 →
 abbrev pub NeverIs : (List ℕ → Type 0) → List ℕ → Type 0
 NeverIs P input = (more : List ℕ) → length (input ++ more) < 2 ^ 64 → P (input ++ more) → ⊥
 
--- The input ends inside an element, or no bytes that are read begin it, whatever follows. Memory and the device are excuses.
+-- `TruncatedData` says that the input ends inside an element. Another fault says that it doesn't, and that no bytes that are read begin it,
+-- whatever follows. Memory and the device are excuses.
 abbrev pub TellsEnd : {T : Type 0} → (T → List ℕ → Type 0) → List ℕ → Asn1DerError → Type 0
 TellsEnd reads input TruncatedData = EndsInside input
 TellsEnd reads input Memory = ⊤
 TellsEnd reads input (Other kind) = ⊤
-TellsEnd reads input fault = NeverBegins (IsReadBy reads) input
+TellsEnd reads input fault = (EndsInside input → ⊥) × NeverBegins (IsReadBy reads) input
 
--- The input ends inside an element, or it is read with nothing that follows. Memory and the device are excuses.
+-- The same of a whole input: after another fault it is read with nothing that follows.
 abbrev pub TellsWholeEnd : {T : Type 0} → (T → List ℕ → Type 0) → List ℕ → Asn1DerError → Type 0
 TellsWholeEnd reads input TruncatedData = EndsInside input
 TellsWholeEnd reads input Memory = ⊤
 TellsWholeEnd reads input (Other kind) = ⊤
-TellsWholeEnd reads input fault = NeverIs (IsReadBy reads) input
+TellsWholeEnd reads input fault = (EndsInside input → ⊥) × NeverIs (IsReadBy reads) input
 
 -- a value's encoding is one element
 pub element_of : (tree : Tree) (bytes : List ℕ) → IsWhole tree → bytes ≡ der tree → IsAnElement bytes
