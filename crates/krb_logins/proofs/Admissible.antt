@@ -1,6 +1,6 @@
 -- What the client of an honest login presents by its ticket for the service is admissible, whatever its authenticator has beside the
 -- client's name and time.
-use Rattle.std.proofs.Common.{◌≡◌, ◌≤◌, ◌+◌, ◌*◌, ◌/◌, ◌%◌, Bool, true, false, None, Some, refl, sym, subst, arith}
+use Rattle.std.proofs.Common.{◌≡◌, ◌/◌, ◌%◌, Bool, true, false, None, Some, refl, sym, subst}
 use Rattle.std.proofs.lemmas.Bool.{and_from}
 use Rattle.asn1_leaves.specs.CharSets.{is_general_string}
 use Rattle.asn1_leaves.specs.GeneralizedTime.{seconds_of}
@@ -17,7 +17,7 @@ use Rattle.krb_tickets.specs.Sealing.{Seals}
 use Rattle.krb_tickets.specs.Grant.{GrantRecord}
 use Rattle.krb_tickets.specs.Parts.{session_key_of, ticket_part}
 use Rattle.krb_tickets.specs.Sealed.{ticket_part_bytes}
-use Rattle.krb_kdc_exchanges.specs.Times.{asked_end}
+use Rattle.krb_kdc_exchanges.specs.Times.{start_of}
 use Rattle.krb_kdc_exchanges.specs.declared.span.Span.{Span}
 use Rattle.krb_ap_requests.specs.Acceptable.{IsAcceptable}
 use Rattle.krb_ap_requests.specs.Presents.{Choice}
@@ -27,13 +27,13 @@ use Rattle.krb_service.specs.Admissible.{IsAdmissible, chosen_pair}
 use Rattle.krb_service.specs.Pair.{is_among}
 use Rattle.krb_service.specs.Service.{ServiceRecord}
 use Rattle.krb_logins.specs.Held.{IsFirstSpan, IsFurtherSpan, IsHeld, further_grant}
-use Rattle.krb_logins.specs.Honest.{AreEnough, AreParties, IsHonestLogin, clock_of, common_skew, login_pair}
+use Rattle.krb_logins.specs.Honest.{AreEnough, AreParties, IsHonestLogin, clock_of, further_end, login_pair}
 use Rattle.krb_logins.specs.Parties.{LoginRecord, RealmRecord, RememberedRecord}
 use Rattle.krb_logins.proofs.GrantTaken.{session_key_sized, suite_of_key}
 use Rattle.krb_logins.proofs.Names.{are_texts, component_texts, own_name, realm_text, same_name, same_realm}
 use Rattle.krb_logins.proofs.PresentedRuns.{choice_of, own_number, under_entry}
-use Rattle.krb_logins.proofs.TicketTimes.{Reaches, has_begun, not_early, not_late, reaches_asked, reaches_end, reaches_first, reaches_lifetime}
-use Rattle.krb_logins.proofs.Times.{by_a_second, moment_told, near}
+use Rattle.krb_logins.proofs.TicketTimes.{further_ends, not_early, not_late}
+use Rattle.krb_logins.proofs.Times.{moment_told}
 
 -- the client's authenticator of a second, which has the checksum, the subkey and what else isn't the client's of another one
 abbrev pub authenticator_beside : ClientRecord → Micros → GeneralizedTime → AuthenticatorInner → AuthenticatorInner
@@ -51,13 +51,6 @@ own_method false = refl
 
 module _ (client : ClientRecord) (realm : RealmRecord) (service : ServiceRecord) (before : RememberedRecord) (login : LoginRecord)
     (parties : AreParties client service) (enough : AreEnough login) (honest : IsHonestLogin client realm service before login) where
-  -- the lesser skew isn't greater than the service's
-  pub least : common_skew realm service ≤ service.seen.skew
-  least = omega arith
-
-  longer : common_skew realm service + 1000000 ≤ realm.settings.lifetime * 1000000
-  longer = by_a_second realm.settings.skew service.seen.skew realm.settings.lifetime parties.entry.0 honest.lasting.lifetime
-
   abbrev clock : Micros
   clock = clock_of before login
 
@@ -77,30 +70,6 @@ module _ (client : ClientRecord) (realm : RealmRecord) (service : ServiceRecord)
   module _ (first span : Span) (first_is : IsFirstSpan realm login first) (further_is : IsFurtherSpan realm login first span) where
     abbrev grant : GrantRecord
     grant = further_grant client realm login first span
-
-    -- the ticket has begun
-    pub begun : seconds_of span.starttime * 1000000 ≤ clock + service.seen.skew
-    begun =
-        has_begun honest.near.start (common_skew realm service) service.seen.skew login.realm_tgs clock
-        honest.near.realm_tgs honest.near.clock least (seconds_of span.starttime) further_is.starts
-
-    -- and hasn't ended
-    first_reaches : Reaches service.seen.skew clock (seconds_of first.endtime)
-    first_reaches =
-        reaches_first service.seen.skew clock realm.settings.lifetime login.realm_as login.till first first_is
-        (reaches_asked honest.near.start (common_skew realm service) service.seen.skew login.realm_as clock
-        honest.near.realm_as honest.near.clock least (asked_end (seconds_of login.till)) honest.lasting.first)
-        (reaches_lifetime honest.near.start (common_skew realm service) service.seen.skew login.realm_as clock
-        honest.near.realm_as honest.near.clock least realm.settings.lifetime longer)
-
-    pub further_reaches : Reaches service.seen.skew clock (seconds_of span.endtime)
-    further_reaches =
-        reaches_end service.seen.skew clock realm.settings.lifetime login.realm_tgs (Some (seconds_of first.endtime)) login.till span further_is
-        (reaches_asked honest.near.start (common_skew realm service) service.seen.skew login.realm_tgs clock
-        honest.near.realm_tgs honest.near.clock least (asked_end (seconds_of login.till)) honest.lasting.further)
-        (reaches_lifetime honest.near.start (common_skew realm service) service.seen.skew login.realm_tgs clock
-        honest.near.realm_tgs honest.near.clock least realm.settings.lifetime longer)
-        first_reaches
 
     -- the confounder of the ticket's part
     abbrev pub for_part : Bytes
@@ -128,8 +97,8 @@ module _ (client : ClientRecord) (realm : RealmRecord) (service : ServiceRecord)
         name = same_name login.service service.entry.components honest.named.asked;
         kvno = own_number service.entry.kvno;
         part_etype = own_number (cipher_number service.entry.suite);
-        started = not_early grant service.seen.skew clock begun;
-        lasts = not_late grant service.seen.skew clock further_reaches;
+        started = not_early grant (start_of login.realm_tgs) (further_end realm login) service.seen.skew clock honest.timely.further further_is.starts;
+        lasts = not_late grant (start_of login.realm_tgs) (further_end realm login) service.seen.skew clock honest.timely.further (further_ends realm login first span first_is further_is);
         suite = client.suite;
         session = suite_of_key client.suite (session_key_of client.suite login.realm_words_tgs) (session_key_sized client.suite login.realm_words_tgs enough.realm_tgs);
         etype = own_number (cipher_number client.suite);
@@ -148,6 +117,6 @@ module _ (client : ClientRecord) (realm : RealmRecord) (service : ServiceRecord)
       unfolding acceptable
       admissible = record {
         acceptable = acceptable;
-        near = near honest.near.start (common_skew realm service) service.seen.skew clock login.client_ap honest.near.clock honest.near.client_ap least;
+        near = honest.timely.ap_near;
         first = subst (λ p. is_among p before.admitted ≡ false) (sym pair) honest.fresh;
       }

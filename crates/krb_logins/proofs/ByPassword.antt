@@ -1,5 +1,5 @@
 -- A client that shares a key with its realm, as that of a password, is authenticated by it: the realm opens its time.
-use Rattle.std.proofs.Common.{◌≡◌, ℕ, ◌*◌, ◌/◌, ◌%◌, false, List, [], ◌∷◌, None, Some, Result, Ok, Err, refl, sym, ◌∙◌, subst}
+use Rattle.std.proofs.Common.{◌≡◌, ℕ, ◌/◌, ◌%◌, false, List, [], ◌∷◌, None, Some, Result, Ok, Err, refl, sym, ◌∙◌, subst}
 use Rattle.asn1_leaves.specs.declared.date.GeneralizedTime.{GeneralizedTime}
 use Rattle.picky_asn1.specs.Bytes.{Bytes}
 use Rattle.asn1_leaves.specs.GeneralizedTime.{seconds_of}
@@ -31,14 +31,14 @@ use Rattle.krb_tickets.specs.MethodData.{pa_data_of}
 use Rattle.krb_client.specs.EncryptedTimestamps.{IsSealedTime, IsPaEncTimestamp, by_key, timestamp_of}
 use Rattle.krb_service.specs.Service.{ServiceRecord}
 use Rattle.krb_logins.specs.Authenticated.{IsAgreedKey, IsAuthenticated, as_body_of_login, first_asked}
-use Rattle.krb_logins.specs.Honest.{AreEnough, AreParties, IsGranting, IsHonestByPassword, common_skew}
+use Rattle.krb_logins.specs.Honest.{AreEnough, AreParties, IsGranting, IsHonestByPassword}
 use Rattle.krb_logins.specs.Laws.{IsMet}
 use Rattle.krb_logins.specs.Parties.{LoginRecord, RealmRecord, RememberedRecord, call_at}
 use Rattle.krb_logins.specs.Steps.{AreDecided}
 use Rattle.krb_logins.proofs.Giving.{by_ask, by_need, by_refuse}
 use Rattle.krb_logins.proofs.Opened.{opened_by}
 use Rattle.krb_logins.proofs.Passing.{past_then}
-use Rattle.krb_logins.proofs.Times.{lesser, moment_told, near}
+use Rattle.krb_logins.proofs.Times.{moment_told}
 use Rattle.krb_logins.proofs.WholeRequests.{writes_encrypted, writes_timestamp}
 
 -- the first entry is the only one
@@ -108,9 +108,7 @@ module _ (client : ClientRecord) (key : Bytes) (realm : RealmRecord) (rows : Pki
   confounder = timestamp_confounder (cipher_confounder_size client.suite) login.words_as
 
   in_time : is_far (skew_of call) login.realm_as login.client_as ≡ false
-  in_time =
-      near by.honest.near.start (common_skew realm service) (skew_of call) login.realm_as login.client_as by.honest.near.realm_as by.honest.near.client_as
-      (lesser (realm.settings.skew * 1000000) service.seen.skew)
+  in_time = by.honest.timely.as_near
 
   shown : (sealed : EncryptedData) → IsSealedTime client.suite key login.client_as confounder sealed
       → (timestamped call account (pa_data_of 2 (encrypted_bytes sealed) ∷ [])).gives (Ok tt)

@@ -28,6 +28,7 @@ use Rattle.krb_tickets.specs.Granted.{IsTicketReply}
 use Rattle.krb_kdc_exchanges.specs.AsTable.{as_table, authenticated, is_later, is_listed, possible}
 use Rattle.krb_kdc_exchanges.specs.Call.{CallRecord}
 use Rattle.krb_kdc_exchanges.specs.Grants.{Principals, granted, initial_grant}
+use Rattle.krb_kdc_exchanges.specs.Times.{start_of}
 use Rattle.krb_kdc_exchanges.specs.Requests.{IsSpan, account_of, header_rows, client_of, is_ended, lasting, service_of}
 use Rattle.krb_messages.specs.TicketGranting.{krbtgt_of}
 use Rattle.krb_kdc_exchanges.specs.declared.span.Span.{Span}
@@ -39,7 +40,7 @@ use Rattle.krb_client.specs.Means.{MeansRecord}
 use Rattle.krb_client.specs.Requests.{nonce_of, request_body}
 use Rattle.krb_logins.specs.Authenticated.{IsAgreedKey, as_body_of_login, first_asked}
 use Rattle.krb_logins.specs.Held.{IsFirstSpan, first_grant}
-use Rattle.krb_logins.specs.Honest.{common_skew}
+use Rattle.krb_logins.specs.Honest.{first_end}
 use Rattle.krb_logins.specs.Laws.{IsFirstGranted, IsMet}
 use Rattle.krb_logins.specs.Parties.{LoginRecord, RealmRecord, RememberedRecord, call_at}
 use Rattle.krb_service.specs.Service.{ServiceRecord}
@@ -47,7 +48,7 @@ use Rattle.krb_logins.proofs.Giving.{by_refuse, past_found}
 use Rattle.krb_logins.proofs.Names.{component_texts, granting_texts, realm_text, same_realm}
 use Rattle.krb_logins.proofs.Passing.{past_ask, past_need, past_refuse, past_then}
 use Rattle.krb_logins.proofs.Replying.{replies_at}
-use Rattle.krb_logins.proofs.Times.{a_second, lasts}
+use Rattle.krb_logins.proofs.Times.{granted_in_time, lasts}
 use Rattle.krb_logins.proofs.WholeRequests.{as_request_written}
 
 -- what there is of time for a ticket that has not ended
@@ -182,9 +183,7 @@ module _ (client : ClientRecord) (means : MeansRecord) (realm : RealmRecord) (ro
   granting_found = ap (λ name. realm.look (krbtgt_of name)) met.honest.named.client ∙ met.granting.found
 
   not_ended : (span : Span) → IsFirstSpan realm login span → is_ended span ≡ false
-  not_ended span is =
-      lasts realm.settings.lifetime login.realm_as login.till span met.honest.lasting.first
-      (a_second (common_skew realm service) realm.settings.lifetime met.honest.lasting.lifetime) is
+  not_ended span is = lasts (start_of login.realm_as) (first_end realm login) span is.starts is.ends met.honest.timely.first.lasts
 
   can_be : (r : Result Span ℕ) → (possible call asked.client.suite body).gives r → (span : Span) × IsFirstSpan realm login span × (r ≡ Ok span)
   can_be = found_possible call asked.client.suite body refl (listed client (krbtgt_of client.realm) login.till (nonce_of login.words_as) asked.client.suite met.honest.client.suite) not_ended
@@ -210,7 +209,9 @@ module _ (client : ClientRecord) (means : MeansRecord) (realm : RealmRecord) (ro
   pub first_granted : IsFirstGranted client means realm rows service before login met
   unfolding IsFirstGranted
   first_granted request asks = (
-    λ are. replies_at realm rows login.till login.realm_as login.realm_words_as request met.keyed met.honest.lasting.first met.enough.realm_as are,
+    λ are.
+        replies_at realm rows login.realm_as login.realm_words_as request met.keyed
+        (granted_in_time realm.settings.lifetime login.realm_as None (seconds_of login.till) met.honest.timely.first.lasts) met.enough.realm_as are,
     λ reply replied.
         let written = as_request_written asks.padata client (client.suite ∷ []) (krbtgt_of client.realm) login.till login.words_as request
         (realm_text client.realm met.parties.realm) (component_texts client.components met.parties.name) (granting_texts client.realm met.parties.realm) asks.encoding in

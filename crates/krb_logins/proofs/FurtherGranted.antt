@@ -1,6 +1,6 @@
 -- The realm grants the ticket for the service by the first one: each row of the TGS table is passed.
-use Rattle.std.proofs.Common.{◌≡◌, ◌<◌, ◌≤◌, ℕ, ◌+◌, ◌*◌, ◌/◌, ◌%◌, true, false, not, ◌&&◌, min, List, [], ◌∷◌, Option, None, Some, Result, Ok, Err, inl, refl, sym, ap, subst, ◌∙◌, get_or, arith}
-use Rattle.std.proofs.lemmas.Bool.{and_from, eq-eqb, eqb-true, lt-leb}
+use Rattle.std.proofs.Common.{◌≡◌, ℕ, ◌/◌, ◌%◌, true, false, not, ◌&&◌, List, [], ◌∷◌, Option, None, Some, Result, Ok, Err, inl, refl, sym, ap, subst, ◌∙◌, get_or, arith}
+use Rattle.std.proofs.lemmas.Bool.{and_from, eq-eqb, eqb-true}
 use Rattle.std.specs.Option.{is_some, option_map_or}
 use Rattle.std.specs.Prelude.{Bool, ◌||◌, ℤ, if◌then◌else◌, pos}
 use Rattle.asn1_der.specs.Length.{element}
@@ -11,7 +11,6 @@ use Rattle.asn1_leaves.specs.GeneralizedTime.{seconds_of}
 use Rattle.picky_asn1.specs.Numbers.{is_number}
 use Rattle.krb_time.specs.Skew.{is_far}
 use Rattle.krb_time.specs.Times.{moment_at}
-use Rattle.krb_time.specs.Units.{Micros, Seconds}
 use Rattle.krb_crypto.specs.declared.suite.CipherSuite.{CipherSuite}
 use Rattle.krb_crypto.specs.Sealing.{IsSealedBy, checksum_of}
 use Rattle.krb_crypto.specs.Suites.{checksum_number, cipher_checksum, cipher_confounder_size, cipher_number}
@@ -37,7 +36,7 @@ use Rattle.krb_tickets.specs.Grant.{GrantRecord}
 use Rattle.krb_tickets.specs.Parts.{session_key_of, ticket_part}
 use Rattle.krb_tickets.specs.ReplyKeys.{ReplyKeyRecord, tgs_reply_key}
 use Rattle.krb_tickets.specs.Sealed.{ticket_part_bytes}
-use Rattle.krb_kdc_exchanges.specs.Times.{asked_end, end_of, last_second, start_of}
+use Rattle.krb_kdc_exchanges.specs.Times.{start_of}
 use Rattle.krb_tickets.specs.Granted.{IsTicketReply}
 use Rattle.krb_ap_requests.specs.ApTable.{ap_fields, is_early, is_for, is_late, kvno_fits, opened, opened_part, timely, authenticator_time}
 use Rattle.krb_ap_requests.specs.Entry.{EntryRecord}
@@ -47,7 +46,7 @@ use Rattle.krb_ap_requests.specs.declared.presented.Authenticated.{Authenticated
 use Rattle.krb_kdc_exchanges.specs.Rows.{PkinitRows}
 use Rattle.krb_kdc_exchanges.specs.Call.{CallRecord, skew_of}
 use Rattle.krb_kdc_exchanges.specs.Granting.{replied}
-use Rattle.krb_kdc_exchanges.specs.Requests.{IsSpan, account_of, client_of, is_ended, lasting, service_of}
+use Rattle.krb_kdc_exchanges.specs.Requests.{account_of, client_of, is_ended, lasting, service_of}
 use Rattle.krb_messages.specs.Bodies.{body_bytes}
 use Rattle.krb_messages.specs.TicketGranting.{krbtgt_of}
 use Rattle.krb_kdc_exchanges.specs.declared.span.Span.{Span}
@@ -64,7 +63,7 @@ use Rattle.krb_client.specs.TgsRequest.{checksum_over, tgs_body_bytes, tgs_reque
 use Rattle.krb_service.specs.Service.{ServiceRecord}
 use Rattle.krb_client.specs.Means.{MeansRecord}
 use Rattle.krb_logins.specs.Held.{IsFirstSpan, IsFurtherSpan, IsHeld, first_grant, further_grant}
-use Rattle.krb_logins.specs.Honest.{common_skew}
+use Rattle.krb_logins.specs.Honest.{first_end, further_end}
 use Rattle.krb_logins.specs.Laws.{IsFurtherGranted, IsMet}
 use Rattle.krb_logins.specs.Parties.{LoginRecord, RealmRecord, RememberedRecord, call_at}
 use Rattle.krb_logins.proofs.FirstGranted.{found_lasting}
@@ -74,9 +73,8 @@ use Rattle.krb_logins.proofs.Names.{are_texts, component_texts, granting_texts, 
 use Rattle.krb_logins.proofs.Passing.{past_ask, past_need, past_none, past_refuse, past_then}
 use Rattle.krb_logins.proofs.PresentedRuns.{choice_of, written}
 use Rattle.krb_logins.proofs.Replying.{replies_at}
-use Rattle.krb_logins.proofs.TicketTimes.{has_begun, not_early, not_late, reaches_asked, reaches_first, reaches_lifetime}
-use Rattle.krb_logins.proofs.Times.{a_second, asked_below, by_a_second, least_of, lesser, moment_told, near}
-use Rattle.krb_logins.proofs.LastSecond.{second_below}
+use Rattle.krb_logins.proofs.TicketTimes.{further_ends, not_early, not_late}
+use Rattle.krb_logins.proofs.Times.{granted_in_time, lasts, moment_told}
 use Rattle.krb_logins.proofs.WholePresented.{whole_authenticator, whole_part}
 use Rattle.krb_logins.proofs.WholeRequests.{tgs_request_written}
 
@@ -84,30 +82,6 @@ use Rattle.krb_logins.proofs.WholeRequests.{tgs_request_written}
 no_as_request : (content bytes : Bytes) → bytes ≡ element 108 content → (request : KdcReq) → IsAsReq bytes request → ⊥
 unfolding element
 no_as_request content bytes e request is = let first = ap (λ b. get_or b 0 0) (sym e ∙ is.1) in omega (arith, first)
-
--- a ticket that is granted by an older one lasts where that one does
-further_lasts : (lifetime : Seconds) (moment : Micros) (old : Seconds) (till : GeneralizedTime) (span : Span) → moment < asked_end (seconds_of till) * 1000000 → 1 ≤ lifetime
-    → moment / 1000000 < old → IsSpan lifetime moment (Some old) (seconds_of till) span → is_ended span ≡ false
-further_lasts lifetime moment old till span before long later is =
-    let last : asked_end (seconds_of till) ≤ last_second = asked_below (seconds_of till) (omega (arith, second_below till)) in
-    let asked : moment / 1000000 < asked_end (seconds_of till) = omega (arith, before) in
-    let end : moment / 1000000 < end_of lifetime (start_of moment) (Some old) (seconds_of till) =
-    least_of (asked_end (seconds_of till)) (min (moment / 1000000 + lifetime) (min old last_second)) (moment / 1000000) asked
-    (least_of (moment / 1000000 + lifetime) (min old last_second) (moment / 1000000) (omega (arith, long))
-    (least_of old last_second (moment / 1000000) later (omega (arith, asked, last)))) in
-    lt-leb (seconds_of span.endtime) (seconds_of span.starttime) (omega (arith, is.starts, is.ends, end))
-
--- the first ticket lasts past the second of each later moment of the login that lies before the end that is asked for
-first_outlasts : (start skew lifetime granted later : ℕ) (till : GeneralizedTime) (span : Span) → start ≤ granted → later ≤ start + skew → skew + 1000000 ≤ lifetime * 1000000
-    → later < asked_end (seconds_of till) * 1000000 → IsSpan lifetime granted None (seconds_of till) span → later / 1000000 < seconds_of span.endtime
-first_outlasts start skew lifetime granted later till span begun near_by longer before is =
-    let last : asked_end (seconds_of till) ≤ last_second = asked_below (seconds_of till) (omega (arith, second_below till)) in
-    let asked : later / 1000000 < asked_end (seconds_of till) = omega (arith, before) in
-    let end : later / 1000000 < end_of lifetime (start_of granted) None (seconds_of till) =
-    least_of (asked_end (seconds_of till)) (min (granted / 1000000 + lifetime) (min last_second last_second)) (later / 1000000) asked
-    (least_of (granted / 1000000 + lifetime) (min last_second last_second) (later / 1000000) (omega (arith, begun, near_by, longer))
-    (least_of last_second last_second (later / 1000000) (omega (arith, asked, last)) (omega (arith, asked, last)))) in
-    omega (arith, end, is.ends)
 
 -- the request's type and options are as they are to be, and its realm is this one
 for_realm : (client : ClientRecord) (service : List Bytes) (till : GeneralizedTime) (nonce : ℕ) (shown : Bytes) (realm : Bytes) → client.realm ≡ realm
@@ -223,12 +197,6 @@ module _ (client : ClientRecord) (means : MeansRecord) (realm : RealmRecord) (ro
   abbrev body : KdcReqBody
   body = request_body client false login.service login.till (nonce_of login.words_tgs)
 
-  least : common_skew realm service ≤ skew_of call
-  least = lesser (realm.settings.skew * 1000000) service.seen.skew
-
-  longer : common_skew realm service + 1000000 ≤ realm.settings.lifetime * 1000000
-  longer = by_a_second realm.settings.skew service.seen.skew realm.settings.lifetime met.parties.entry.0 met.honest.lasting.lifetime
-
   realm_is : is_general_string realm.name ≡ true
   realm_is = subst (λ name. is_general_string name ≡ true) met.honest.named.client (realm_text client.realm met.parties.realm)
 
@@ -236,27 +204,16 @@ module _ (client : ClientRecord) (means : MeansRecord) (realm : RealmRecord) (ro
   counts : (client_and_times call (ticket_part old)).gives (Ok tt)
   unfolding ticket_part
   counts =
-      let begun =
-      has_begun met.honest.near.start (common_skew realm service) (skew_of call) login.realm_as login.realm_tgs met.honest.near.realm_as met.honest.near.realm_tgs
-      least (seconds_of first.starttime) first_is.starts in
-      let reaches =
-      reaches_first (skew_of call) login.realm_tgs realm.settings.lifetime login.realm_as login.till first first_is
-      (reaches_asked met.honest.near.start (common_skew realm service) (skew_of call) login.realm_as login.realm_tgs met.honest.near.realm_as met.honest.near.realm_tgs
-      least (asked_end (seconds_of login.till)) met.honest.lasting.first)
-      (reaches_lifetime met.honest.near.start (common_skew realm service) (skew_of call) login.realm_as login.realm_tgs met.honest.near.realm_as met.honest.near.realm_tgs
-      least realm.settings.lifetime longer) in
       by_refuse {T = Unit {0}} {E = ℕ} (not (is_same_realm realm.name realm.name)) 68 (timely (skew_of call) login.realm_tgs (ticket_part old)) (Ok tt) (ap not (own_realm realm.name))
       (by_refuse {T = Unit {0}} {E = ℕ} (is_early (skew_of call) login.realm_tgs (ticket_part old)) 33 (refuse (is_late (skew_of call) login.realm_tgs (ticket_part old)) 32 (done (Ok tt))) (Ok tt)
-      (not_early old (skew_of call) login.realm_tgs begun)
-      (by_refuse {T = Unit {0}} {E = ℕ} (is_late (skew_of call) login.realm_tgs (ticket_part old)) 32 (done (Ok tt)) (Ok tt) (not_late old (skew_of call) login.realm_tgs reaches) refl))
+      (not_early old (start_of login.realm_as) (first_end realm login) (skew_of call) login.realm_tgs met.honest.timely.first first_is.starts)
+      (by_refuse {T = Unit {0}} {E = ℕ} (is_late (skew_of call) login.realm_tgs (ticket_part old)) 32 (done (Ok tt)) (Ok tt)
+      (not_late old (start_of login.realm_as) (first_end realm login) (skew_of call) login.realm_tgs met.honest.timely.first first_is.ends) refl))
 
   -- the service ticket isn't ended
   not_ended : (span : Span) → IsFurtherSpan realm login first span → is_ended span ≡ false
   not_ended span is =
-      further_lasts realm.settings.lifetime login.realm_tgs (seconds_of first.endtime) login.till span met.honest.lasting.further
-      (a_second (common_skew realm service) realm.settings.lifetime met.honest.lasting.lifetime)
-      (first_outlasts met.honest.near.start (common_skew realm service) realm.settings.lifetime login.realm_as login.realm_tgs login.till first
-      met.honest.near.realm_as.begun met.honest.near.realm_tgs.lasts longer met.honest.lasting.further first_is) is
+      lasts (start_of login.realm_tgs) (further_end realm login) span is.starts (further_ends realm login first span first_is is) met.honest.timely.further.lasts
 
   module _ (granting : CredentialRecord) (held : IsHeld met.granting.account login.realm_words_as old granting)
       (second : GeneralizedTime) (of_moment : seconds_of second ≡ login.client_tgs / 1000000) (shown_bytes : Bytes) where
@@ -355,7 +312,7 @@ module _ (client : ClientRecord) (means : MeansRecord) (realm : RealmRecord) (ro
         shown,
         inl ((client.suite, authenticator), shown_opens, inl (login.client_tgs, shown_told, refl)),
         by_refuse {T = Authenticated} {E = ℕ} (is_far (skew_of call) login.realm_tgs login.client_tgs) 37 (done (Ok shown)) (Ok shown)
-            (near met.honest.near.start (common_skew realm service) (skew_of call) login.realm_tgs login.client_tgs met.honest.near.realm_tgs met.honest.near.client_tgs least) refl,
+            met.honest.timely.tgs_near refl,
       )
 
       -- its checksum covers the body
@@ -449,7 +406,9 @@ unfolding IsFurtherGranted
 further_granted client means realm rows service before login met first granting request first_is held asks =
     let shown = asks.authenticates in
     let presents = subst (λ a. IsApRequest granting 7 false a (authenticator_confounder (cipher_confounder_size granting.suite) login.words_tgs) asks.request) shown.authenticates.is_made shown.presents in (
-      λ are. replies_at realm rows login.till login.realm_tgs login.realm_words_tgs request met.keyed met.honest.lasting.further met.enough.realm_tgs are,
+      λ are.
+          replies_at realm rows login.realm_tgs login.realm_words_tgs request met.keyed
+          (granted_in_time realm.settings.lifetime login.realm_tgs (Some (first_end realm login)) (seconds_of login.till) met.honest.timely.further.lasts) met.enough.realm_tgs are,
       λ reply replied.
           granted client means realm rows service before login met first first_is granting held shown.authenticates.second shown.authenticates.of_moment asks.request presents request reply asks.encoding replied,
     )

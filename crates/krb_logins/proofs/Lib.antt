@@ -13,6 +13,8 @@ mod FirstTaken
 mod ByPassword
 mod FurtherTaken
 mod TicketTimes
+mod Near
+pub mod Judged
 pub mod WholePresented
 pub mod PresentedRuns
 pub mod ReplyTaken

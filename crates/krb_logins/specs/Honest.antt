@@ -1,14 +1,15 @@
 -- Which logins are honest, and what they end with.
-use Rattle.std.specs.Prelude.{◌≡◌, ◌≤◌, ◌<◌, ◌+◌, ◌*◌, ℕ, false, max, min, length, Some, Result, Ok, Err}
+use Rattle.std.specs.Prelude.{◌≡◌, ◌<◌, ◌*◌, ℕ, false, max, None, Some, Result, Ok, Err}
 use Rattle.krb_messages.specs.RandomBytes.{AreEnoughForApReply, AreEnoughForReply, AreEnoughForRequest}
 use Rattle.picky_asn1.specs.Bytes.{Bytes}
 use Rattle.asn1_leaves.specs.GeneralizedTime.{seconds_of}
-use Rattle.krb_time.specs.Units.{Micros}
+use Rattle.krb_time.specs.Skew.{is_before, is_far}
+use Rattle.krb_time.specs.Units.{Micros, Seconds}
 use Rattle.krb_messages.specs.Names.{components}
 use Rattle.krb_realm_accounts.specs.Account.{AccountRecord}
 use Rattle.krb_realm_accounts.specs.Names.{AreComponents, IsRealmName}
 use Rattle.krb_service.specs.Pair.{PairRecord, is_among}
-use Rattle.krb_kdc_exchanges.specs.Times.{asked_end}
+use Rattle.krb_kdc_exchanges.specs.Times.{end_of, start_of}
 use Rattle.krb_messages.specs.TicketGranting.{krbtgt_of}
 use Rattle.krb_client.specs.Client.{ClientRecord}
 use Rattle.krb_service.specs.Service.{IsService, ServiceRecord}
@@ -62,47 +63,49 @@ pub record IsGranting (realm : RealmRecord) : Type 0 where
   pub account : AccountRecord
   pub found : realm.look (krbtgt_of realm.name) ≡ Some account
 
--- the moment lies in the span that begins there
-pub record IsWithin (start span moment : Micros) : Type 0 where
-  pub begun : start ≤ moment
-  pub lasts : moment ≤ start + span
+-- the realm's clock skew in microseconds
+abbrev pub realm_skew : RealmRecord → Micros
+realm_skew realm = realm.settings.skew * 1000000
 
--- the lesser of the realm's skew and the service's
-abbrev pub common_skew : RealmRecord → ServiceRecord → Micros
-common_skew realm service = min (realm.settings.skew * 1000000) service.seen.skew
-
--- the clock that a service judges by
+-- the clock that a service judges by: the greatest moment that it was handed
 abbrev pub clock_of : RememberedRecord → LoginRecord → Micros
 clock_of before login = max before.greatest login.service_ap
 
--- any two clocks, and any two moments of a login, differ by the lesser skew at most: all lie in one span of it
-pub record AreNear (skew : Micros) (before : RememberedRecord) (login : LoginRecord) : Type 0 where
-  pub start : Micros
-  pub client_as : IsWithin start skew login.client_as
-  pub realm_as : IsWithin start skew login.realm_as
-  pub client_tgs : IsWithin start skew login.client_tgs
-  pub realm_tgs : IsWithin start skew login.realm_tgs
-  pub client_ap : IsWithin start skew login.client_ap
-  pub clock : IsWithin start skew (clock_of before login)
+-- the endtime of the ticket-granting ticket (RFC 4120, section 3.1.3)
+abbrev pub first_end : RealmRecord → LoginRecord → Seconds
+first_end realm login = end_of realm.settings.lifetime (start_of login.realm_as) None (seconds_of login.till)
 
--- the end that is asked for lies behind the moments at which the realm grants; a ticket may last longer than the skew
-pub record IsLasting (realm : RealmRecord) (service : ServiceRecord) (login : LoginRecord) : Type 0 where
-  pub first : login.realm_as < asked_end (seconds_of login.till) * 1000000
-  pub further : login.realm_tgs < asked_end (seconds_of login.till) * 1000000
-  pub lifetime : common_skew realm service < realm.settings.lifetime * 1000000
+-- the endtime of the service ticket, which is no later (RFC 4120, section 3.3.3)
+abbrev pub further_end : RealmRecord → LoginRecord → Seconds
+further_end realm login = end_of realm.settings.lifetime (start_of login.realm_tgs) (Some (first_end realm login)) (seconds_of login.till)
+
+-- a ticket of these times is granted, and is valid later: it ends after its start, and by a clock of this skew it has begun at this
+-- moment, and has not ended (RFC 4120, section 3.2.3)
+pub record IsTicketInTime (start end : Seconds) (skew moment : Micros) : Type 0 where
+  pub lasts : start < end
+  pub begun : is_before skew moment (start * 1000000) ≡ false
+  pub not_ended : is_before skew (end * 1000000) moment ≡ false
+
+-- In each exchange the client's time is within the skew of the clock that judges it: the realm's skew in the AS and the TGS exchange,
+-- the service's in the AP exchange. The ticket-granting ticket is valid in the TGS exchange, and the service ticket in the AP exchange.
+pub record IsTimely (realm : RealmRecord) (service : ServiceRecord) (before : RememberedRecord) (login : LoginRecord) : Type 0 where
+  pub as_near : is_far (realm_skew realm) login.realm_as login.client_as ≡ false
+  pub tgs_near : is_far (realm_skew realm) login.realm_tgs login.client_tgs ≡ false
+  pub ap_near : is_far service.seen.skew (clock_of before login) login.client_ap ≡ false
+  pub first : IsTicketInTime (start_of login.realm_as) (first_end realm login) (realm_skew realm) login.realm_tgs
+  pub further : IsTicketInTime (start_of login.realm_tgs) (further_end realm login) service.seen.skew (clock_of before login)
 
 -- the client and the time of its authenticator
 abbrev pub login_pair : ClientRecord → LoginRecord → PairRecord
 login_pair client login = record { realm = client.realm; components = client.components; time = login.client_ap }
 
--- an honest login, by whatever means: the parties know one another, their clocks agree up to the skew, and the service admitted no
--- authenticator of this client and time before
+-- an honest login, by whatever means: the parties know one another, each exchange is timely, and the service admitted no authenticator
+-- of this client and time before
 pub record IsHonestLogin (asking : ClientRecord) (realm : RealmRecord) (asked_for : ServiceRecord) (before : RememberedRecord) (login : LoginRecord) : Type 0 where
   pub named : AreNamed asking realm asked_for login
   pub client : IsClientKnown asking realm
   pub service : IsServiceKnown asked_for realm
-  pub near : AreNear (common_skew realm asked_for) before login
-  pub lasting : IsLasting realm asked_for login
+  pub timely : IsTimely realm asked_for before login
   pub fresh : is_among (login_pair asking login) before.admitted ≡ false
 
 -- an honest login by password: the realm knows the client by the key of its password too

@@ -3,6 +3,7 @@ pub mod Input
 pub mod Steps
 pub mod LoginRun
 pub mod Honest
+pub mod Near
 pub mod Authenticated
 pub mod Held
 pub mod Laws

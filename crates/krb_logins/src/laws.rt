@@ -7,17 +7,24 @@ ghost use Rattle.krb_ap_requests.specs.Presents.{Presents};
 ghost use Rattle.krb_kdc_exchanges.specs.Calls.{AreKeyed};
 ghost use Rattle.krb_client.specs.Client.{ClientRecord, CredentialRecord};
 ghost use Rattle.krb_client.specs.EncryptedTimestamps.{by_key};
-ghost use Rattle.krb_service.specs.Service.{ServiceRecord};
+ghost use Rattle.krb_service.specs.Service.{IsService, ServiceRecord};
 ghost use Rattle.krb_logins.specs.Choices.{AsksService, choice_by};
-ghost use Rattle.krb_logins.specs.Honest.{AreEnough, AreParties, IsGranting, IsHonestByPassword, IsOneKey, WantsMemory};
+ghost use Rattle.krb_logins.specs.Honest.{AreEnough, AreParties, IsGranting, IsHonestByPassword, IsOneKey, IsTimely, WantsMemory};
 ghost use Rattle.krb_logins.specs.Laws.{IsClientAdmitted, IsFirstGranted, IsFirstTaken, IsFurtherGranted, IsFurtherTaken, IsMet};
 ghost use Rattle.krb_logins.specs.LoginRun.{Login, LoginRun};
+ghost use Rattle.krb_logins.specs.Near.{AreNear, IsLasting, common_skew};
 ghost use Rattle.krb_logins.specs.Parties.{LoginRecord, RealmRecord, RememberedRecord};
 ghost use Rattle.krb_logins.specs.Steps.{AreDecided};
 ghost use Rattle.krb_logins.specs.declared.refusal.LoginRefusal.{LoginRefusal};
 
 use krb_client::Means;
 use krb_kdc_exchanges::Pkinit;
+
+/// A login whose steps all lie within one clock skew, and for which the realm's tickets last longer than that skew, is timely.
+pub fn near_is_timely()
+    ensures { (realm : RealmRecord) (service : ServiceRecord) (before : RememberedRecord) (login : LoginRecord) → IsService service
+        → AreNear (common_skew realm service) before login → IsLasting realm service login → IsTimely realm service before login }
+{}
 
 /// A realm has a reply to the first request of an honest login's client, and grants the ticket that it asks for.
 pub fn first_granted<M: Means, P: Pkinit>(means: &M, pkinit: &P)
