@@ -25,6 +25,7 @@ mod Admitted
 mod FurtherGranted
 mod OneKey
 pub mod EndsWithOneKey
+mod Uses
 mod OneLogin
 pub mod TakenParts
 pub mod ChoicePresented

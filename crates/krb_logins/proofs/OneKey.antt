@@ -1,5 +1,5 @@
 -- Every honest login leaves client and service with one key: its steps in a row, by what holds of each.
-use Rattle.std.proofs.Common.{◌≡◌, ◌&&◌, ℕ, Bool, true, false, List, ◌∷◌, Option, None, Some, Result, Ok, Err, inl, inr, refl, sym, subst, ap, ◌∙◌}
+use Rattle.std.proofs.Common.{◌≡◌, ◌⊎◌, ◌&&◌, ℕ, Bool, true, false, List, ◌∷◌, Option, None, Some, Result, Ok, Err, inl, inr, refl, sym, subst, ap, ◌∙◌}
 use Rattle.asn1_leaves.specs.declared.date.GeneralizedTime.{GeneralizedTime}
 use Rattle.picky_asn1.specs.Bytes.{Bytes}
 use Rattle.krb_time.specs.Units.{Micros}
@@ -133,6 +133,11 @@ pub record AreLaws (client : ClientRecord) (means : MeansRecord) (realm : RealmR
   pub further_granted : IsFurtherGranted client means realm rows service before login met
   pub further_taken : IsFurtherTaken client means realm rows service before login met
   pub client_admitted : IsClientAdmitted client means realm rows service before login met
+
+-- what the service may remember after the AP exchange
+pub record IsAfter (client : ClientRecord) (before : RememberedRecord) (login : LoginRecord) (after : RememberedRecord) : Type 0 where
+  pub greatest : (after.greatest ≡ clock_of before login) ⊎ (after.greatest ≡ before.greatest)
+  pub admitted : (after.admitted ≡ login_pair client login ∷ before.admitted) ⊎ (after.admitted ≡ before.admitted)
 
 module _ (client : ClientRecord) (means : MeansRecord) (realm : RealmRecord) (rows : PkinitRows) (service : ServiceRecord) (before : RememberedRecord) (login : LoginRecord)
     (met : IsMet client means realm rows service before login) (laws : AreLaws client means realm rows service before login met) where
@@ -295,6 +300,23 @@ module _ (client : ClientRecord) (means : MeansRecord) (realm : RealmRecord) (ro
     served (Err admit_refusal.Memory) after result x y = subst (Ends HaveOneKey) (sym y) refl
     served (Err admit_refusal.Unreadable) after result x y = absurd (no_refusal _ _ (ap (λ o. o.0) (outcome_is after.greatest (Err admit_refusal.Unreadable, after.admitted) x.0 x.1).1.0))
     served (Err (admit_refusal.Krb code)) after result x y = absurd (no_refusal _ _ (ap (λ o. o.0) (outcome_is after.greatest (Err (admit_refusal.Krb code), after.admitted) x.0 x.1).1.0))
+
+    -- the service remembers one pair more, or as many
+    served_after : (answer : Result AdmissionRecord AdmitRefusal) (after : RememberedRecord) → IsAdmitted service login sent.0 before answer after → IsAfter client before login after
+    unfolding IsAdmitted
+    served_after (Ok admission) after x = record {
+      greatest = inl x.0;
+      admitted = inl (ap (λ o. o.1) (outcome_is after.greatest (Ok admission, after.admitted) x.0 x.1).1.0);
+    }
+    served_after (Err admit_refusal.Memory) after x = record { greatest = inl x.0; admitted = inr x.1 }
+    served_after (Err admit_refusal.Unreadable) after x = absurd (no_refusal _ _ (ap (λ o. o.0) (outcome_is after.greatest (Err admit_refusal.Unreadable, after.admitted) x.0 x.1).1.0))
+    served_after (Err (admit_refusal.Krb code)) after x = absurd (no_refusal _ _ (ap (λ o. o.0) (outcome_is after.greatest (Err (admit_refusal.Krb code), after.admitted) x.0 x.1).1.0))
+
+  pub ap_after : (credential : CredentialRecord) (result : Result Login LoginRefusal) (after : RememberedRecord) → HoldsFurther credential
+      → ApExchange client service login credential before result after → IsAfter client before login after
+  unfolding ApExchange
+  ap_after credential result after holds (inl x) = served_after credential holds x.0 x.1 x.2.0 after x.2.1
+  ap_after credential result after holds (inr x) = record { greatest = inr (ap (λ (r : RememberedRecord). r.greatest) x.3); admitted = inr (ap (λ (r : RememberedRecord). r.admitted) x.3) }
 
   ap_unasked : (credential : CredentialRecord) (refusal : AskRefusal) → IsApAsked client credential login.client_ap login.words_ap (Err refusal) → refusal ≡ ask_refusal.Memory
   unfolding IsApAsked

@@ -7,5 +7,6 @@ pub mod Near
 pub mod Authenticated
 pub mod Held
 pub mod Laws
+pub mod Uses
 pub mod Choices
 pub mod ApExchanges

@@ -1,6 +1,7 @@
 //! What holds of every honest login, step by step, and of what a client writes to a service. Each is a function that does
 //! nothing when it runs: its contract is the law.
-ghost use Rattle.std.specs.Prelude.{◌≡◌, ◌⊎◌, ℕ, Bool, List, Result};
+ghost use Rattle.std.specs.Prelude.{◌≡◌, ◌⊎◌, ℕ, Bool, List, Result, Ok};
+ghost use Rattle.std.specs.List.{All};
 ghost use Rattle.krb_crypto.specs.Suites.{cipher_confounder_size};
 ghost use Rattle.krb_messages.specs.RandomBytes.{authenticator_confounder};
 ghost use Rattle.krb_ap_requests.specs.Presents.{Presents};
@@ -11,10 +12,11 @@ ghost use Rattle.krb_service.specs.Service.{IsService, ServiceRecord};
 ghost use Rattle.krb_logins.specs.Choices.{AsksService, choice_by};
 ghost use Rattle.krb_logins.specs.Honest.{AreEnough, AreParties, IsGranting, IsHonestByPassword, IsOneKey, IsTimely, WantsMemory};
 ghost use Rattle.krb_logins.specs.Laws.{IsClientAdmitted, IsFirstGranted, IsFirstTaken, IsFurtherGranted, IsFurtherTaken, IsMet};
-ghost use Rattle.krb_logins.specs.LoginRun.{Login, LoginRun};
+ghost use Rattle.krb_logins.specs.LoginRun.{AsExchange, Exchanges, Login, LoginRun};
 ghost use Rattle.krb_logins.specs.Near.{AreNear, IsLasting, common_skew};
 ghost use Rattle.krb_logins.specs.Parties.{LoginRecord, RealmRecord, RememberedRecord};
 ghost use Rattle.krb_logins.specs.Steps.{AreDecided};
+ghost use Rattle.krb_logins.specs.Uses.{AreUses, AreUsesMet, IsVisit, IsVisitMet, UseRecord, VisitRecord};
 ghost use Rattle.krb_logins.specs.declared.refusal.LoginRefusal.{LoginRefusal};
 
 use krb_client::Means;
@@ -67,6 +69,26 @@ pub fn one_key_by_password<P: Pkinit>(pkinit: &P)
     ensures { (client : ClientRecord) (key : List ℕ) (realm : RealmRecord) (service : ServiceRecord) (before : RememberedRecord) (login : LoginRecord) (result : Result Login LoginRefusal) (after : RememberedRecord)
         → AreParties client service → AreEnough login → IsGranting realm → AreKeyed realm.look → IsHonestByPassword client key realm service before login
         → LoginRun client (by_key client.suite key) realm (P.rows pkinit.now) service login before result after → IsOneKey client result }
+{}
+
+/// By one ticket-granting ticket a client is admitted at each of several services, or memory runs out. Each visit is timely by its own
+/// moments.
+pub fn several_services<M: Means, P: Pkinit>(means: &M, pkinit: &P)
+    ensures { (client : ClientRecord) (realm : RealmRecord) (login : LoginRecord) (granting : CredentialRecord) (visits : List VisitRecord)
+        → AsExchange client (M.means means.now) realm (P.rows pkinit.now) login (Ok granting)
+        → All (IsVisit client realm (P.rows pkinit.now) login granting) visits
+        → All (IsVisitMet client (M.means means.now) realm (P.rows pkinit.now) login) visits
+        → All (λ visit. IsOneKey client visit.used.result) visits }
+{}
+
+/// By one service ticket a client is admitted each time that it uses it, or memory runs out. Each use has a time of its own, while the
+/// ticket lasts.
+pub fn several_uses<M: Means, P: Pkinit>(means: &M, pkinit: &P)
+    ensures { (client : ClientRecord) (realm : RealmRecord) (service : ServiceRecord) (before : RememberedRecord) (login : LoginRecord) (credential : CredentialRecord) (uses : List UseRecord)
+        → Exchanges client (M.means means.now) realm (P.rows pkinit.now) login (Ok credential)
+        → AreUsesMet client (M.means means.now) realm (P.rows pkinit.now) service login before uses
+        → AreUses client service login credential before uses
+        → All (λ used. IsOneKey client used.result) uses }
 {}
 
 /// A login has one outcome: what it answers, and what the service remembers after it. The only exception is running out of memory.

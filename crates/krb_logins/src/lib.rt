@@ -4,9 +4,10 @@
 //! Each step of an honest login is granted and accepted (laws `first_granted`, `first_taken`, `further_granted`, `further_taken`,
 //! `client_admitted`). The login ends with one session key on both sides, or with `Memory` (laws `one_key`, `one_key_by_password`). Each
 //! login has one outcome (law `one_login`). The steps of an honest login may lie hours apart, while its tickets last: a login whose steps
-//! all lie within one clock skew is a special case (law `near_is_timely`). `is_honest` and `is_honest_by_key` answer true of exactly the
-//! honest logins. [`ap_exchange`] ends as `ApExchange` says: with the client's session key and the service's admission, or with the
-//! refusal of the step that refuses. What the service remembers after it is what it then has seen.
+//! all lie within one clock skew is a special case (law `near_is_timely`). One ticket may be used several times (laws `several_services`,
+//! `several_uses`). `is_honest` and `is_honest_by_key` answer true of exactly the honest logins. [`ap_exchange`] ends as `ApExchange`
+//! says: with the client's session key and the service's admission, or with the refusal of the step that refuses. What the service
+//! remembers after it is what it then has seen.
 #![tactic(auto)]
 
 mod granting;
