@@ -1,5 +1,5 @@
 //! Whether a login by GSS is honest: the premises of its laws, judged by what the parties hold.
-ghost use Rattle.std.specs.Prelude.{IsTrue};
+ghost use Rattle.std.specs.Prelude.{IfOk, IsTrue};
 ghost use Rattle.krb_messages.specs.RandomBytes.{AreEnoughForRequest, AreEnoughForSubkey};
 ghost use Rattle.krb_logins.specs.Honest.{AreEnough};
 ghost use Rattle.krb_logins.specs.Input.{held_by, login_of, realm_of};
@@ -11,11 +11,11 @@ use krb_client::Client;
 use krb_kdc_exchanges::Call;
 use krb_logins::LoginInput;
 use krb_service::Service;
-use std::alloc::Global;
+use std::alloc::{AllocError, Global};
 
 /// Whether a login is honest of this client, at the realm that is called so and at this service, where the client asks for a context with
-/// these channel bindings and flags. What the service holds counts as what it admitted. If memory runs out, the answer is false, and so it is
-/// of an acceptor with channel bindings of its own.
+/// these channel bindings and flags. What the service holds counts as what it admitted. The answer is false of an acceptor with channel
+/// bindings of its own. Fails only if memory runs out.
 pub fn is_honest(
     alloc: Global,
     client: &Client,
@@ -25,16 +25,15 @@ pub fn is_honest(
     input: &LoginInput<'_>,
     initial: InitialChecksum,
     words: &[u8],
-) -> bool
+) -> Result<bool, AllocError>
     requires login { AreEnough (login_of input.now) }
     requires context { AreEnoughForRequest words.now }
     requires reply { AreEnoughForSubkey input.now.service_words.now }
-    ensures { IsTrue result → IsHonestGssLogin client.now (realm_of realm.now) service.now terms (held_by service.now) (login_of input.now) initial words.now }
+    ensures { IfOk result (λ is. IsTrue is → IsHonestGssLogin client.now (realm_of realm.now) service.now terms (held_by service.now) (login_of input.now) initial words.now) }
 {
     client.is_well_formed();
     service.is_well_formed();
     service.holds_window();
-    terms.bindings.is_none()
-        && krb_logins::is_honest(alloc, client, realm, service, input)
-        && refusal_of(client.suite(), initial.flags).is_none()
+    let honest = krb_logins::is_honest(alloc, client, realm, service, input)?;
+    Ok(terms.bindings.is_none() && honest && refusal_of(client.suite(), initial.flags).is_none())
 }
