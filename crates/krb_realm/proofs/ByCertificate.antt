@@ -1,5 +1,5 @@
 -- A client and a realm that trust each other by certificate: the realm authenticates the client, and both have one reply key.
-use Rattle.std.proofs.Common.{◌≡◌, ℕ, ◌*◌, false, [], ◌∷◌, Some, Result, Ok, Err, inl, inr, refl, sym, ap, ◌∙◌, subst}
+use Rattle.std.proofs.Common.{◌≡◌, ℕ, false, [], ◌∷◌, Some, Result, Ok, Err, inl, inr, refl, sym, ap, ◌∙◌, subst}
 use Rattle.std.specs.Option.{option_map_or}
 use Rattle.picky_asn1.specs.Bytes.{Bytes}
 use Rattle.krb_time.specs.Skew.{is_far}
@@ -25,12 +25,11 @@ use Rattle.krb_client.specs.declared.refusal.TakeRefusal.{TakeRefusal}
 use Rattle.krb_client.specs.declared.refusal.TakeRefusal.TheVariants.{NotTrusted}
 use Rattle.krb_service.specs.Service.{ServiceRecord}
 use Rattle.krb_logins.specs.Authenticated.{IsAgreedKey, IsAuthenticated, as_body_of_login, first_asked}
-use Rattle.krb_logins.specs.Honest.{AreEnough, AreParties, IsGranting, common_skew}
+use Rattle.krb_logins.specs.Honest.{AreEnough, AreParties, IsGranting}
 use Rattle.krb_logins.specs.Laws.{IsMet}
 use Rattle.krb_logins.specs.Parties.{LoginRecord, RealmRecord, RememberedRecord, call_at}
 use Rattle.krb_logins.specs.Steps.{AreDecided}
 use Rattle.krb_logins.proofs.Giving.{past_found}
-use Rattle.krb_logins.proofs.Times.{lesser, near}
 use Rattle.x509_keys.specs.KeyFunctions.{KeysRecord}
 use Rattle.pkinit_validation.specs.Anchors.{AnchorRecord}
 use Rattle.pkinit_validation.specs.AgreementBytes.{agreement_bytes}
@@ -85,9 +84,7 @@ module _ (client : ClientRecord) (certificate : Bytes) (anchor : AnchorRecord) (
   agreement = by.exchange.agreement
 
   in_time : is_far (skew_of call) login.realm_as login.client_as ≡ false
-  in_time =
-      near by.honest.near.start (common_skew realm service) (skew_of call) login.realm_as login.client_as by.honest.near.realm_as by.honest.near.client_as
-      (lesser (realm.settings.skew * 1000000) service.seen.skew)
+  in_time = by.honest.timely.as_near
 
   abbrev request : IsHonestRequest client_keys realm_keys certificate login.client_as (agreement_part login.words_as) trust judged
   request = record {

@@ -22,8 +22,8 @@ pkinit_call_of_login client realm login = pkinit_call (call_at realm login.realm
 abbrev pub pkinit_asked_of_login : AnchorRecord → ClientRecord → LoginRecord → PkinitAskedRecord
 pkinit_asked_of_login anchor client login = pkinit_asked anchor client (first_asked client login)
 
--- An honest login by certificate: the parties know one another and their clocks are near, and its AS exchange is honest. So both agree
--- on one secret. The realm has an anchor and a certificate of its own. Each accepts the other's certificate under its own anchor, and
+-- An honest login by certificate: the parties know one another, each exchange is timely, and the AS exchange is honest. So both agree on
+-- one secret. The realm has an anchor and a certificate of its own. Each accepts the other's certificate under its own anchor, and
 -- verifies what its holder signs in this login: the client's AuthPack and the realm's KDCDHKeyInfo.
 pub record IsHonestByCertificate (client : ClientRecord) (certificate : Bytes) (anchor : AnchorRecord) (client_keys : KeysRecord) (realm : RealmRecord) (trust : TrustRecord)
     (realm_keys : KeysRecord) (service : ServiceRecord) (before : RememberedRecord) (login : LoginRecord) : Type 0 where

@@ -30,7 +30,7 @@ pub record IsCertified (group : Group) (own other : OwnKey) (expected : Expected
   pub is_own : IsPublicPart own read.certificate.tbs_certificate.subject_public_key_info
   pub right : IsRight own.private
 
--- an honest login by RSA certificates: the parties know one another and their clocks are near. The random bytes of each give a public
+-- an honest login by RSA certificates: the parties know one another, and each exchange is timely. The random bytes of each give a public
 -- value of the group. The realm has an anchor and a certificate of its own. Each accepts the other's certificate under its own anchor.
 -- By its own key the client signs the AuthPack and the realm the KDCDHKeyInfo
 pub record IsHonestByRsa (group : Group) (client : ClientRecord) (certificate : Bytes) (anchor : AnchorRecord) (client_own : OwnKey) (realm : RealmRecord) (trust : TrustRecord)

@@ -1,5 +1,5 @@
 //! Whether a login by certificate is honest: the premise of its law, judged by what the parties hold.
-ghost use Rattle.std.specs.Prelude.{IsTrue};
+ghost use Rattle.std.specs.Prelude.{IfOk, IsTrue};
 ghost use Rattle.krb_messages.specs.RandomBytes.{AreEnoughForRequest};
 ghost use Rattle.krb_logins.specs.Authenticated.{as_body_of_login};
 ghost use Rattle.krb_logins.specs.Input.{held_by, login_of, realm_of};
@@ -18,12 +18,12 @@ use krb_logins::{LoginInput, granting_service, is_honest};
 use krb_service::Service;
 use pkinit_clients::ByCertificate;
 use pkinit_validation::RealmPkinit;
-use std::alloc::Global;
+use std::alloc::{AllocError, Global};
 use x509_keys::KeyFunctions;
 
 /// Whether a login by certificate is honest: of this client with its certificate, at the realm that is called so, and at this service.
-/// The moments and the random bytes are the input's. What the service holds counts as what it admitted. If memory runs out, the answer
-/// is false.
+/// The moments and the random bytes are the input's. What the service holds counts as what it admitted. If memory runs out, it fails, or
+/// the answer is false.
 pub fn is_certified_login_honest<C: KeyFunctions, R: KeyFunctions>(
     alloc: Global,
     client: &Client,
@@ -32,15 +32,17 @@ pub fn is_certified_login_honest<C: KeyFunctions, R: KeyFunctions>(
     pkinit: &RealmPkinit<'_, R>,
     service: &Service,
     input: &LoginInput<'_>,
-) -> bool
+) -> Result<bool, AllocError>
     requires { AreEnoughForRequest input.now.words_as.now }
-    ensures { IsTrue result → IsHonestByCertificate client.now own.now.certificate.now own.now.anchor.now (C.functions own.now.keys.now) (realm_of realm.now)
-        (trust_of pkinit.now.anchor pkinit.now.certificate) (R.functions pkinit.now.keys.now) service.now (held_by service.now) (login_of input.now) }
+    ensures { IfOk result (λ is. IsTrue is → IsHonestByCertificate client.now own.now.certificate.now own.now.anchor.now (C.functions own.now.keys.now) (realm_of realm.now)
+        (trust_of pkinit.now.anchor pkinit.now.certificate) (R.functions pkinit.now.keys.now) service.now (held_by service.now) (login_of input.now)) }
 {
-    if !is_honest(alloc, client, realm, service, input) {
-        return false;
+    let honest = is_honest(alloc, client, realm, service, input)?;
+    if !honest {
+        return Ok(false);
     }
-    has_honest_exchange(alloc, client, own, realm, pkinit, input)
+    let exchanged = has_honest_exchange(alloc, client, own, realm, pkinit, input);
+    Ok(exchanged)
 }
 
 // Whether the AS exchange is honest: a request by the client's certificate, and another one that is made only then.

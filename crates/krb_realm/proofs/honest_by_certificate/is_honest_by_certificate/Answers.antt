@@ -22,5 +22,5 @@ returns-in-Certificate g c = λ true.
             trust = c.pkinit-own.ensures.trust i;
             realm_keys = g.R.KeyFunctions.functions (c.pkinit-own.ensures.keys i);
           })
-          (c.is_certified_login_honest.ensures true),
+          (c.in_ok-honest.ensures true),
     )
