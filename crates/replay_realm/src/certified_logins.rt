@@ -80,6 +80,7 @@ fn tell_by_client(
 fn conditions() -> anyhow::Result<Conditions> {
     Ok(Conditions {
         moment: Moment::from_text(b"20270601000000Z").context("no moment")?,
+        moments: None,
         till: GeneralizedTime::from_text(b"20270601100000Z").context("no time")?,
         random: Random { first: 1, step: 1 },
     })
@@ -104,7 +105,7 @@ pub(crate) fn tell_ended(
     let name = components_of_text(alloc, HOST)?;
     let input = input_of(at, &name, &random, &realm_random);
     let (mine, theirs) = (keys.client, keys.realm);
-    let honest = is_honest_by_certificate(alloc, client, realm, service, &input, mine, theirs);
+    let honest = is_honest_by_certificate(alloc, client, realm, service, &input, mine, theirs)?;
     let login = login_by_certificate(alloc, client, realm, service, &input, mine, theirs);
     tell_outcome(honest, login, told);
     Ok(())

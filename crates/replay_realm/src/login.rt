@@ -11,12 +11,11 @@ use gss_acceptor::{AcceptorTerms, ContextFlags, InitialChecksum};
 use gss_initiator::NO_BINDINGS;
 use gss_logins::is_honest;
 use krb_realm::{
-    Admission, Client, EncryptionKey, LoginInput, LoginMoments, LoginRefusal, Moment, Realm,
-    Service, is_honest_by_certificate, is_honest_by_password, login_by_certificate,
-    login_by_password,
+    Admission, Client, EncryptionKey, LoginInput, LoginMoments, LoginRefusal, Realm, Service,
+    is_honest_by_certificate, is_honest_by_password, login_by_certificate, login_by_password,
 };
 use picky_asn1_der::both;
-use std::alloc::Global;
+use std::alloc::{AllocError, Global};
 use test_support::{Row, Told};
 
 /// A login by password, or by certificate with these key functions.
@@ -65,7 +64,7 @@ pub(crate) fn honest(
             is_honest_by_certificate(alloc, client, realm, service, &input, mine, theirs)
         }
     };
-    told.show(&is_honest);
+    tell_judged(is_honest, told);
     Ok(())
 }
 
@@ -85,8 +84,17 @@ pub(crate) fn honest_context(
     let input = input_of(stage.conditions, &name, &random, &random);
     let (client, realm) = both(stage.client(), stage.realm())?;
     let service = stage.service.as_ref().context("no service")?;
-    told.show(&is_context_honest(alloc, client, realm, service, &input, initial, &random));
+    let is_honest = is_context_honest(alloc, client, realm, service, &input, initial, &random);
+    tell_judged(is_honest, told);
     Ok(())
+}
+
+// Writes whether it is honest, or that memory ran out.
+fn tell_judged(judged: Result<bool, AllocError>, told: &mut Told) {
+    match judged {
+        Ok(is_honest) => told.show(&is_honest),
+        Err(refusal) => refused(told, &refusal),
+    }
 }
 
 // The context has the random octets of the client's steps.
@@ -98,7 +106,7 @@ fn is_context_honest(
     input: &LoginInput<'_>,
     initial: InitialChecksum,
     random: &[u8; 128],
-) -> bool
+) -> Result<bool, AllocError>
     requires login { AreEnough (login_of input.now) }
     requires reply { 64 ≤ length input.now.service_words.now }
 {
@@ -107,7 +115,8 @@ fn is_context_honest(
     is_honest(alloc, client, &call, service, terms, input, initial, random)
 }
 
-/// All steps have one moment. Those of the client have the same random bytes, and so have the others.
+/// All steps have one moment, unless the conditions give each its own. Those of the client have the same random bytes, and so have the
+/// others.
 pub(crate) fn input_of<'a>(
     at: Conditions,
     service: &'a [Vec<u8>],
@@ -120,7 +129,7 @@ pub(crate) fn input_of<'a>(
     LoginInput {
         service,
         till: at.till,
-        moments: moments_of(at.moment),
+        moments: moments_of(at),
         words_as: random,
         words_tgs: random,
         words_ap: random,
@@ -140,13 +149,14 @@ fn tell_login(login: Result<(EncryptionKey, Admission), LoginRefusal>, told: &mu
     }
 }
 
-fn moments_of(moment: Moment) -> LoginMoments {
-    LoginMoments {
+fn moments_of(at: Conditions) -> LoginMoments {
+    let moment = at.moment;
+    at.moments.unwrap_or(LoginMoments {
         client_as: moment,
         realm_as: moment,
         client_tgs: moment,
         realm_tgs: moment,
         client_ap: moment,
         service_ap: moment,
-    }
+    })
 }

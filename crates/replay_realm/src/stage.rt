@@ -2,11 +2,12 @@
 
 use crate::certificates::Certified;
 use crate::line::Line;
-use crate::words::{second_of, start};
+use crate::words::{moment_of, second_of, start};
 use crate::{ask, broken, login, many, parts, realms, services, take};
 use anyhow::{Context, bail};
 use krb_realm::{
-    ApAsked, AsAsked, Client, Credential, GeneralizedTime, Moment, NoKeys, Realm, Service, TgsAsked,
+    ApAsked, AsAsked, Client, Credential, GeneralizedTime, LoginMoments, Moment, NoKeys, Realm,
+    Service, TgsAsked,
 };
 use picky_asn1_der::both;
 use std::alloc::Global;
@@ -16,6 +17,8 @@ use test_support::{Row, Told};
 #[derive(Clone, Copy)]
 pub(crate) struct Conditions {
     pub(crate) moment: Moment,
+    /// The moments of a whole login, if its steps have moments of their own.
+    pub(crate) moments: Option<LoginMoments>,
     pub(crate) till: GeneralizedTime,
     pub(crate) random: Random,
 }
@@ -66,6 +69,7 @@ impl Stage {
     pub(crate) fn new(alloc: Global) -> anyhow::Result<Stage> {
         let conditions = Conditions {
             moment: start()?,
+            moments: None,
             till: second_of("20000102000000Z")?,
             random: Random { first: 0, step: 0 },
         };
@@ -148,6 +152,7 @@ fn tell_step(
         "random" => set_random(stage, words),
         "client" => take::client(stage, alloc, words, told),
         "moment" => return set_moment(stage, words),
+        "moments" => return set_moments(stage, words),
         "till" => return set_till(stage, words),
         "answer_fronts" => return many::answer_fronts(stage, alloc, told),
         "answer_replaced" => return many::answer_replaced(stage, alloc, told),
@@ -207,6 +212,20 @@ fn set_moment(stage: &mut Stage, words: &mut Row<'_>) -> anyhow::Result<()> {
         bail!("more than a second");
     }
     stage.conditions.moment = Moment::at(second, micros);
+    stage.conditions.moments = None;
+    Ok(())
+}
+
+/// The moments of whole logins, up to the next `moment`: each in microseconds after the first second of 2000.
+fn set_moments(stage: &mut Stage, words: &mut Row<'_>) -> anyhow::Result<()> {
+    stage.conditions.moments = Some(LoginMoments {
+        client_as: moment_of(words.word())?,
+        realm_as: moment_of(words.word())?,
+        client_tgs: moment_of(words.word())?,
+        realm_tgs: moment_of(words.word())?,
+        client_ap: moment_of(words.word())?,
+        service_ap: moment_of(words.word())?,
+    });
     Ok(())
 }
 
