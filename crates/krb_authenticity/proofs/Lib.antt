@@ -16,4 +16,4 @@ mod HonestReplies
 mod Unforged
 pub mod Whole
 pub mod Runs
-mod Named
+pub mod Named

@@ -12,7 +12,7 @@ use Rattle.krb_tickets.specs.Grant.{GrantRecord}
 use Rattle.krb_ap_requests.specs.Entry.{EntryRecord}
 use Rattle.krb_service.specs.Admission.{AdmissionRecord}
 use Rattle.krb_authenticity.specs.Among.{IsAmong}
-use Rattle.krb_authenticity.specs.Authentic.{IsTicketGranted, WasAuthenticated}
+use Rattle.krb_authenticity.specs.Authentic.{IsTicketGranted, IsTimedBy, WasAuthenticated}
 use Rattle.krb_authenticity.specs.Named.{AreByOwnKeys, AreKeysApart, IsAskedByName, IsByOwnKey}
 use Rattle.krb_authenticity.specs.Grants.{IsGranted}
 use Rattle.krb_authenticity.specs.Parties.{ExchangeRecord, SentRecord}
@@ -36,22 +36,26 @@ absent : (given : Option Bytes) (padata : Bytes) → given ≡ None → given �
 absent given padata none some = absurd (cc (none, some))
 
 -- the client whose key opened the timestamp is the one that the request names
+pub timed_named : (rows : PkinitRows) (keys : List Bytes) (exchanges : List ExchangeRecord) (sent : SentRecord) (realm : Bytes) (client : PrincipalName) (authtime : GeneralizedTime)
+    (was : WasAuthenticated rows keys exchanges sent realm client authtime) → AreKeysApart was.exchange.call.look → AreByOwnKeys was.exchange.call sent
+    → IsTimedBy sent was.exchange was.first.principals.client.key → IsAskedByName sent was.exchange realm client
+timed_named rows keys exchanges sent realm client authtime was apart own by =
+    let holds : IsByOwnKey was.exchange.call by.0 = own by.0 by.1 in
+    let name =
+    apart by.0.client.components (components was.first.principals.client_name) holds.account was.first.principals.client holds.found was.first.client_found (holds.key ∙ sym by.3) in
+    record {
+      request = by.0;
+      among = by.1;
+      is_sent = by.2;
+      in_realm = holds.realm ∙ sym was.in_realm;
+      named = name ∙ sym (ap components was.named);
+      near = by.4;
+    }
+
 pub client_named : (rows : PkinitRows) (keys : List Bytes) (exchanges : List ExchangeRecord) (sent : SentRecord) (realm : Bytes) (client : PrincipalName) (authtime : GeneralizedTime)
     (was : WasAuthenticated rows keys exchanges sent realm client authtime) → IsAmong was.first.principals.client.key keys → first_of PA_PK_AS_REQ (padata_in was.first.asked) ≡ None
     → AreKeysApart was.exchange.call.look → AreByOwnKeys was.exchange.call sent → IsAskedByName sent was.exchange realm client
 client_named rows keys exchanges sent realm client authtime was kept none apart own = elim was.shown [
   | inl certified ↦ absurd (absent (first_of PA_PK_AS_REQ (padata_in was.first.asked)) certified.0 none certified.2)
-  | inr timed ↦
-      let by = timed kept in
-      let holds : IsByOwnKey was.exchange.call by.0 = own by.0 by.1 in
-      let name =
-      apart by.0.client.components (components was.first.principals.client_name) holds.account was.first.principals.client holds.found was.first.client_found (holds.key ∙ sym by.3) in
-      record {
-        request = by.0;
-        among = by.1;
-        is_sent = by.2;
-        in_realm = holds.realm ∙ sym was.in_realm;
-        named = name ∙ sym (ap components was.named);
-        near = by.4;
-      }
+  | inr timed ↦ timed_named rows keys exchanges sent realm client authtime was apart own (timed kept)
 ]

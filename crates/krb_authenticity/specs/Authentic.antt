@@ -62,15 +62,19 @@ pub record IsPartGranted (rows : PkinitRows) (exchanges : List ExchangeRecord) (
   pub sealed_under : account.key ≡ key
   pub is_part : part ≡ ticket_part grant
 
+-- a client that holds this key sent an encrypted timestamp, in a request for a first ticket at a moment near now
+abbrev pub IsTimedBy : SentRecord → ExchangeRecord → Bytes → Type 0
+IsTimedBy sent exchange key =
+    (request : FirstRequest) × IsAmong request sent.first × IsFirstSent request
+    × (key ≡ request.key.bytes) × (is_far (skew_of exchange.call) exchange.call.moment request.moment ≡ false)
+
 -- how the realm authenticated the client: its rows accept the certificate; or the client's account has a key under which an encrypted
 -- timestamp near now opened. If this key is one of these, a client that holds it sent that in a request
 abbrev pub IsShown : PkinitRows → List Bytes → SentRecord → ExchangeRecord → Principals → KdcReq → Type 0
 IsShown rows keys sent exchange principals asked =
     ((padata : Bytes) × (agreed : AgreedRecord) × (first_of PA_PK_AS_REQ (padata_in asked) ≡ Some padata)
     × (rows.judges (pkinit_call exchange.call (components principals.client_name) (body_of asked)) padata).gives (Ok agreed))
-    ⊎ (IsAmong principals.client.key keys
-    → (request : FirstRequest) × IsAmong request sent.first × IsFirstSent request
-    × (principals.client.key ≡ request.key.bytes) × (is_far (skew_of exchange.call) exchange.call.moment request.moment ≡ false))
+    ⊎ (IsAmong principals.client.key keys → IsTimedBy sent exchange principals.client.key)
 
 -- in one of these exchanges the realm of this name authenticated this client, at this authtime
 pub record WasAuthenticated (rows : PkinitRows) (keys : List Bytes) (exchanges : List ExchangeRecord) (sent : SentRecord) (realm : Bytes) (client : PrincipalName) (authtime : GeneralizedTime) : Type 0 where

@@ -12,6 +12,7 @@ mod Honesty
 pub mod Shown
 mod Signatures
 mod HonestSignatures
+mod FirstAsked
 mod Wholeness
 pub mod Writable
 pub mod Trusting

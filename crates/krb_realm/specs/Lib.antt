@@ -8,3 +8,4 @@ pub mod Honest
 pub mod HonestByCertificate
 pub mod HonestByRsa
 pub mod Signatures
+pub mod FirstAsked

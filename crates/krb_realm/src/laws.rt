@@ -11,7 +11,7 @@ ghost use Rattle.pkinit_validation.specs.PkinitRows.{pkinit_rows};
 
 pub use crate::certified_laws::{agreement_granted, agreement_taken, one_key_by_certificate};
 use crate::client::Client;
-pub use crate::signature_laws::{certified_client_asked, certified_is_signed};
+pub use crate::signature_laws::{certified_client_asked, certified_is_signed, first_client_asked};
 pub use krb_crypto::laws::has_sealed;
 pub use krb_logins::laws::ap_request_presents_choice;
 use krb_memory_realms::Settings;

@@ -20,7 +20,9 @@
 //! premise there.
 //!
 //! Where no one signs but the holders of their keys, a client that the realm accepted by certificate asked by it (law
-//! `certified_client_asked`). This premise holds of requests that come to the realm as clients sent them (law `certified_is_signed`).
+//! `certified_client_asked`). Where moreover no two accounts share a key, the client of each AS exchange itself asked, by its certificate
+//! or by the key of its account (law `first_client_asked`). The premise on signatures holds of requests that come to the realm as clients
+//! sent them (law `certified_is_signed`).
 #![tactic(auto)]
 
 mod certified_honesty;
