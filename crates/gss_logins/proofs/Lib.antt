@@ -3,6 +3,8 @@ mod Conversation
 mod Presented
 mod Sent
 mod Authentic
+mod AskedContexts
+mod AnsweredEnds
 mod Admitted
 mod Accepted
 mod Replied

@@ -5,12 +5,15 @@ use Rattle.krb_messages.specs.Messages.{IsApReq}
 use Rattle.krb_messages.specs.declared.messages.ap_req.ApReqInner.{ApReqInner}
 use Rattle.krb_kdc_exchanges.specs.Rows.{PkinitRows}
 use Rattle.krb_ap_requests.specs.ApTable.{enc_part_in}
+use Rattle.krb_ap_requests.specs.Entry.{EntryRecord}
 use Rattle.krb_ap_requests.specs.Presents.{Choice}
+use Rattle.krb_service.specs.Admission.{AdmissionRecord}
 use Rattle.krb_service.specs.ChosenEntry.{chosen}
 use Rattle.krb_authenticity.specs.Authentic.{WasAuthenticated}
 use Rattle.krb_authenticity.specs.Ciphertexts.{IsRequestUnforged}
 use Rattle.krb_authenticity.specs.Parties.{ExchangeRecord, SentRecord}
-use Rattle.gss_acceptor.specs.Accepting.{AcceptorRecord, AdmitRequest, AskFor, Step, VerifyMic, carried}
+use Rattle.krb_authenticity.specs.Runs.{IsAuthenticAt}
+use Rattle.gss_acceptor.specs.Accepting.{AcceptorRecord, AdmitRequest, AskFor, IsEstablished, Step, VerifyMic, carried}
 use Rattle.gss_acceptor.specs.Chosen.{IsChosen, IsChosenAfter}
 use Rattle.gss_acceptor.specs.Established.{EstablishedRecord}
 use Rattle.gss_acceptor.specs.declared.accepted.Accepted.{Accepted}
@@ -47,3 +50,11 @@ abbrev pub IsAuthenticAfter : PkinitRows → List Bytes → List ExchangeRecord 
 IsAuthenticAfter rows keys exchanges sent accepted =
     (choice : Choice) × IsChosenAfter choice accepted
     × WasAuthenticated rows keys exchanges sent choice.part.crealm.0 choice.part.cname.0 choice.part.auth_time.0.0
+
+-- the context is made of an admission whose client the realm had authenticated. If the session key is one of these, the client itself asked
+-- for it: the flags, the bindings, the subkey and the first number are those of its request
+pub record IsAskedContext (rows : PkinitRows) (keys : List Bytes) (exchanges : List ExchangeRecord) (sent : SentRecord) (acceptor : AcceptorRecord) (random : Bytes) (established : EstablishedRecord) : Type 0 where
+  pub admission : AdmissionRecord
+  pub is_made : IsEstablished acceptor.terms acceptor.service.seen.skew random admission (Ok established)
+  pub entry : EntryRecord
+  pub authentic : IsAuthenticAt rows keys exchanges sent entry admission

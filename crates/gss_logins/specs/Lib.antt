@@ -3,3 +3,4 @@ pub mod Honest
 pub mod OneContext
 pub mod Granted
 pub mod Carried
+pub mod AnsweredEnds

@@ -11,7 +11,7 @@ ghost use Rattle.krb_logins.specs.LoginRun.{Exchanges};
 ghost use Rattle.krb_logins.specs.Parties.{LoginRecord, RealmRecord, RememberedRecord};
 ghost use Rattle.krb_authenticity.specs.Ciphertexts.{IsRealmUnforged};
 ghost use Rattle.krb_authenticity.specs.Parties.{ExchangeRecord, IsClient, IsServiceSent, SentRecord, service_request_of};
-ghost use Rattle.gss_acceptor.specs.Accepting.{AcceptorRecord, Handles, Step, Takes, carried};
+ghost use Rattle.gss_acceptor.specs.Accepting.{AcceptorRecord, Establishes, Handles, Step, Takes, carried};
 ghost use Rattle.gss_acceptor.specs.Established.{EstablishedRecord};
 ghost use Rattle.gss_acceptor.specs.declared.accepted.Accepted.{Accepted};
 ghost use Rattle.gss_acceptor.specs.declared.accepted.Accepted.TheVariants.{Established};
@@ -25,7 +25,11 @@ ghost use Rattle.gss_initiator.specs.declared.initiated.TokenForm.TheVariants.{B
 ghost use Rattle.gss_initiator.specs.declared.refusal.InitiateRefusal.{InitiateRefusal};
 ghost use Rattle.gss_initiator.specs.Checksums.{is_mutual};
 ghost use Rattle.gss_initiator.specs.Requests.{AsksContext};
-ghost use Rattle.gss_logins.specs.Carried.{Carries, IsAuthenticAfter, IsAuthenticContext, IsMessageUnforged, IsToAdmit, IsToVerify};
+ghost use Rattle.gss_initiator.specs.Taking as taking;
+ghost use Rattle.gss_initiator.specs.Taking.{TakenRecord};
+ghost use Rattle.gss_initiator.specs.declared.initiated.Pending.{Pending};
+ghost use Rattle.gss_logins.specs.AnsweredEnds.{IsAnswerUnforged, IsAnsweredEnd};
+ghost use Rattle.gss_logins.specs.Carried.{Carries, IsAskedContext, IsAuthenticAfter, IsAuthenticContext, IsMessageUnforged, IsToAdmit, IsToVerify};
 ghost use Rattle.gss_logins.specs.Granted.{IsContextAsked, IsHonestGssLogin, IsRemembered, gss_login_of};
 ghost use Rattle.gss_logins.specs.GssLogins.{GssLogin};
 ghost use Rattle.gss_logins.specs.Honest.{IsAnswering, IsHonest};
@@ -106,3 +110,19 @@ pub fn established_was_authenticated<P: Pkinit>(pkinit: &P)
     established_as_presented();
     presented_was_authenticated(pkinit);
 }
+
+/// Where no ciphertext was forged, an acceptor makes its context of an admission whose client the realm had authenticated. If the session key
+/// is one of the run's, the client itself asked: the flags, the channel bindings, the subkey and the first number are those of its request.
+pub fn context_was_asked<P: Pkinit>(pkinit: &P)
+    ensures { (keys : List (List ℕ)) (exchanges : List ExchangeRecord) (sent : SentRecord) (acceptor after : AcceptorRecord) (moment : ℕ) (message random : List ℕ) (admitted : List PairRecord)
+        (established : EstablishedRecord) → IsRealmUnforged (P.rows pkinit.now) keys exchanges sent
+        → IsMessageUnforged (P.rows pkinit.now) keys exchanges sent acceptor message → IsWindow acceptor.service.seen admitted
+        → Establishes acceptor moment message random (Ok established) after → IsAskedContext (P.rows pkinit.now) keys exchanges sent acceptor random established }
+{}
+
+/// Where no ciphertext was forged, an initiator that asked for mutual authentication has its end by the AP-REP of a service. This service
+/// opened the ticket, and admitted a request of the initiator's session and time (RFC 4121, section 4.1; RFC 4120, section 3.2.5).
+pub fn end_was_answered<P: Pkinit>(pkinit: &P)
+    ensures { (keys : List (List ℕ)) (exchanges : List ExchangeRecord) (sent : SentRecord) (pending : Pending) (answer : List ℕ) (taken : TakenRecord)
+        → IsAnswerUnforged (P.rows pkinit.now) keys exchanges sent pending answer → taking.Takes pending answer (Ok taken) → IsAnsweredEnd sent pending taken.context }
+{}

@@ -112,12 +112,12 @@ module _ (entry : EntryRecord) (skew : ℕ) (fields : ReplyFields) (moment : ℕ
 -- ---- what a client takes
 
 -- the part was opened, and has the time that the client asked with
-record IsShownSo (asked : ApAskedRecord) (message : Bytes) : Type 0 where
-  reply : ApRepInner
-  read : IsApRep message reply
-  part : EncApRepPartInner
-  opens : IsApPart asked reply.enc_part.0 part
-  has_time : tells asked.time part ≡ true
+pub record IsShownSo (asked : ApAskedRecord) (message : Bytes) : Type 0 where
+  pub reply : ApRepInner
+  pub read : IsApRep message reply
+  pub part : EncApRepPartInner
+  pub opens : IsApPart asked reply.enc_part.0 part
+  pub has_time : tells asked.time part ≡ true
 
 abbrev took : Shown
 took = Ok tt
@@ -177,7 +177,7 @@ module _ (sent : SentRecord) (asked : ApAskedRecord) (message : Bytes) (so : IsS
   abbrev opened : CiphertextRecord
   opened = ap_reply_under asked.suite asked.key so.reply.enc_part.0.cipher.0
 
-  by_answer : (answer : AnswerRecord) → IsAmong answer sent.answered → IsApReplyOf answer opened → IsServicesReply sent asked
+  by_answer : (answer : AnswerRecord) → IsAmong answer sent.answered → IsApReplyOf answer opened → (by : IsServicesReply sent asked) × (so.part ≡ content_of by.answer)
   by_answer answer among made =
       let same = one_opened {T = EncApRepPartInner} enc_ap_rep_part_tree enc_ap_rep_part-injective opened
       (ap_reply_under answer.presented.suite (session_of answer.presented) made.sent.reply.part.cipher.0) made.is so.part (content_of answer)
@@ -186,20 +186,28 @@ module _ (sent : SentRecord) (asked : ApAskedRecord) (message : Bytes) (so : IsS
       let own : moment_at (seconds_of answer.presented.authenticator.ctime.0.0) answer.presented.authenticator.cusec.0 ≡ Some asked.time =
       sym (ap (λ micros. moment_at (seconds_of answer.presented.authenticator.ctime.0.0) micros) (ap (λ (p : EncApRepPartInner). p.cusec.0) same ∙ time.1))
       ∙ sym (ap (λ second. moment_at (seconds_of second) so.part.cusec.0) (ap (λ (p : EncApRepPartInner). p.ctime.0.0) same ∙ time.0))
-      ∙ time_told asked.time so.part so.has_time in
-      record {
-        answer = answer;
-        among = among;
-        is_sent = made.sent;
-        session = ap (λ (a : AdmissionRecord). a.session.key_value.0) made.sent.admits ∙ sym (ap (λ (c : CiphertextRecord). c.key) made.is);
-        at_time = same_some answer.presented.time asked.time (sym made.sent.ctime ∙ own);
-      }
+      ∙ time_told asked.time so.part so.has_time in (
+        record {
+          answer = answer;
+          among = among;
+          is_sent = made.sent;
+          session = ap (λ (a : AdmissionRecord). a.session.key_value.0) made.sent.admits ∙ sym (ap (λ (c : CiphertextRecord). c.key) made.is);
+          at_time = same_some answer.presented.time asked.time (sym made.sent.ctime ∙ own);
+        },
+        same,
+      )
 
-pub service_replied : (rows : PkinitRows) (keys : List Bytes) (exchanges : List ExchangeRecord) (sent : SentRecord) (asked : ApAskedRecord) (message : Bytes)
-    → IsUnforged rows keys exchanges sent (OpensApReply asked message) → IsAmong asked.key keys → (takes_ap_reply asked message).gives (Ok tt) → IsServicesReply sent asked
-service_replied rows keys exchanges sent asked message unforged kept given =
-    let so = shown_so asked message given in
+-- of a part that was opened so, and it is what the service sent
+pub shown_replied : (rows : PkinitRows) (keys : List Bytes) (exchanges : List ExchangeRecord) (sent : SentRecord) (asked : ApAskedRecord) (message : Bytes)
+    → IsUnforged rows keys exchanges sent (OpensApReply asked message) → IsAmong asked.key keys → (so : IsShownSo asked message)
+    → (by : IsServicesReply sent asked) × (so.part ≡ content_of by.answer)
+shown_replied rows keys exchanges sent asked message unforged kept so =
     let cipher : Bytes = so.reply.enc_part.0.cipher.0 in
     let made = ap_reply_made rows exchanges sent asked.suite asked.key cipher
     (unforged (ap_reply_under asked.suite asked.key cipher) (record { reply = so.reply; read = so.read; part = so.part; opens = so.opens; is = refl }) kept) in
     by_answer sent asked message so made.0 made.1 made.2
+
+pub service_replied : (rows : PkinitRows) (keys : List Bytes) (exchanges : List ExchangeRecord) (sent : SentRecord) (asked : ApAskedRecord) (message : Bytes)
+    → IsUnforged rows keys exchanges sent (OpensApReply asked message) → IsAmong asked.key keys → (takes_ap_reply asked message).gives (Ok tt) → IsServicesReply sent asked
+service_replied rows keys exchanges sent asked message unforged kept given =
+    (shown_replied rows keys exchanges sent asked message unforged kept (shown_so asked message given)).0

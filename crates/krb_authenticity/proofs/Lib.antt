@@ -11,7 +11,7 @@ pub mod Traced
 pub mod Asked
 mod FurtherAsked
 mod ReplyParts
-mod Answered
+pub mod Answered
 mod HonestReplies
 mod Unforged
 pub mod Whole
