@@ -11,10 +11,10 @@ pub mod ContextTokenLaws
 pub mod Unread
 pub mod Values
 pub mod ContextTokensWritten
-mod Ends
-mod Judged
-mod Opened
-mod Rotated
+pub mod Ends
+pub mod Judged
+pub mod Opened
+pub mod Rotated
 mod Sums
 mod TwoEnds
 mod Written

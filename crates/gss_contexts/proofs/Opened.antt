@@ -21,7 +21,7 @@ use Rattle.gss_contexts.proofs.Ends.{same_back, same_front}
 use Rattle.gss_contexts.proofs.Rotated.{one_text}
 
 -- the newer suites don't pad
-padded_same : (suite : CipherSuite) → is_newer suite ≡ true → (text : List ℕ) → cipher_padded suite text ≡ text
+pub padded_same : (suite : CipherSuite) → is_newer suite ≡ true → (text : List ℕ) → cipher_padded suite text ≡ text
 padded_same Aes128CtsHmacSha196 newer text = refl
 padded_same Aes256CtsHmacSha196 newer text = refl
 padded_same Des3CbcSha1Kd newer text = absurd (false≢true newer)

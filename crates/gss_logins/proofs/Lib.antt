@@ -5,6 +5,7 @@ mod Sent
 mod Authentic
 mod AskedContexts
 mod AnsweredEnds
+mod WrittenTokens
 mod Admitted
 mod Accepted
 mod Replied

@@ -4,3 +4,4 @@ pub mod OneContext
 pub mod Granted
 pub mod Carried
 pub mod AnsweredEnds
+pub mod WrittenTokens

@@ -1,5 +1,5 @@
 //! The laws of both ends of a context. Each is a function that does nothing when it runs: its contract is the law.
-ghost use Rattle.std.specs.Prelude.{◌≡◌, ◌<◌, List, ℕ, Ok, Result};
+ghost use Rattle.std.specs.Prelude.{◌≡◌, ◌<◌, List, ℕ, Ok, Result, true};
 ghost use Rattle.krb_client.specs.Client.{ClientRecord, CredentialRecord};
 ghost use Rattle.krb_kdc_exchanges.specs.declared.span.Span.{Span};
 ghost use Rattle.krb_service.specs.Pair.{PairRecord};
@@ -17,7 +17,8 @@ ghost use Rattle.gss_acceptor.specs.declared.accepted.Accepted.{Accepted};
 ghost use Rattle.gss_acceptor.specs.declared.accepted.Accepted.TheVariants.{Established};
 ghost use Rattle.gss_acceptor.specs.declared.checksum.InitialChecksum.{InitialChecksum};
 ghost use Rattle.gss_acceptor.specs.declared.terms.AcceptorTerms.{AcceptorTerms};
-ghost use Rattle.gss_contexts.specs.Contexts.{ContextRecord, last_number, sender_of};
+ghost use Rattle.gss_contexts.specs.Contexts.{ContextRecord, is_newer, last_number, peer, sender_of};
+ghost use Rattle.gss_contexts.specs.Judging.{TakesMic, TakesWrap};
 ghost use Rattle.gss_contexts.specs.Tokens.{WritesMic, WritesWrap};
 ghost use Rattle.gss_contexts.specs.declared.side.Protection.{Protection};
 ghost use Rattle.gss_initiator.specs.Initiating.{InitiatedRecord, Initiates};
@@ -33,6 +34,8 @@ ghost use Rattle.gss_logins.specs.Carried.{Carries, IsAskedContext, IsAuthenticA
 ghost use Rattle.gss_logins.specs.Granted.{IsContextAsked, IsHonestGssLogin, IsRemembered, gss_login_of};
 ghost use Rattle.gss_logins.specs.GssLogins.{GssLogin};
 ghost use Rattle.gss_logins.specs.Honest.{IsAnswering, IsHonest};
+ghost use Rattle.krb_authenticity.specs.Among.{IsAmong};
+ghost use Rattle.gss_logins.specs.WrittenTokens.{IsMicMade, IsMicUnforged, IsMicWritten, IsWrapUnforged, IsWrapWritten, IsWrapped, MicRecord, WrapRecord};
 ghost use Rattle.gss_logins.specs.OneContext.{AreEnds, EndsInOneContext, IsMessageTaken, IsMicTaken};
 
 use gss_acceptor::laws::established_as_presented;
@@ -125,4 +128,16 @@ pub fn context_was_asked<P: Pkinit>(pkinit: &P)
 pub fn end_was_answered<P: Pkinit>(pkinit: &P)
     ensures { (keys : List (List ℕ)) (exchanges : List ExchangeRecord) (sent : SentRecord) (pending : Pending) (answer : List ℕ) (taken : TakenRecord)
         → IsAnswerUnforged (P.rows pkinit.now) keys exchanges sent pending answer → taking.Takes pending answer (Ok taken) → IsAnsweredEnd sent pending taken.context }
+{}
+
+/// Where no one made what protects a message but the ends of the key, what an end unwraps an end on the other side wrapped, with this number
+/// and protection, and it made a MIC that this end verifies (RFC 4121, section 4.2.6). The premise holds of tokens that come as they were
+/// written (`written_wraps`, `written_mics`).
+pub fn unwrapped_was_wrapped()
+    ensures wraps { (wraps : List WrapRecord) (end after : ContextRecord) (token : List ℕ) (number : ℕ) (protection : Protection) (message : List ℕ) → is_newer end.key.suite ≡ true
+        → IsWrapUnforged wraps (peer end) token → TakesWrap end after token number protection message → IsWrapped wraps (peer end) number protection message }
+    ensures mics { (mics : List MicRecord) (end after : ContextRecord) (message token : List ℕ) → IsMicUnforged mics (peer end) message token
+        → (takes : TakesMic end after message token) → IsMicMade mics (peer end) takes.number message }
+    ensures written_wraps { (wraps : List WrapRecord) (wrap : WrapRecord) → IsAmong wrap wraps → IsWrapWritten wrap → IsWrapUnforged wraps wrap.sender wrap.token }
+    ensures written_mics { (mics : List MicRecord) (mic : MicRecord) → IsAmong mic mics → IsMicWritten mic → IsMicUnforged mics mic.sender mic.message mic.token }
 {}
