@@ -43,7 +43,7 @@ at_once rows keys exchanges sent entry admitted admission later x =
 
 pub context_asked : (rows : PkinitRows) (keys : List Bytes) (exchanges : List ExchangeRecord) (sent : SentRecord) (acceptor after : AcceptorRecord) (moment : ℕ) (message random : List ℕ) (admitted : List PairRecord)
     (established : EstablishedRecord) → IsRealmUnforged rows keys exchanges sent → IsMessageUnforged rows keys exchanges sent acceptor message → IsWindow acceptor.service.seen admitted
-    → Establishes acceptor moment message random (Ok established) after → IsAskedContext rows keys exchanges sent acceptor random established
+    → Establishes acceptor moment message random (Ok established) after → IsAskedContext rows keys exchanges sent acceptor message random established
 context_asked rows keys exchanges sent acceptor after moment message random admitted established realm own window (same, inl (admission, admits, is_made)) =
     let service : KeytabServiceRecord = acceptor.service in
     let fields : ReplyFields = fields_of acceptor.terms in
@@ -52,5 +52,5 @@ context_asked rows keys exchanges sent acceptor after moment message random admi
     let read = request_of fields service greatest admitted message random admission step.0 step.1 in
     let entry : EntryRecord = chosen service.entries (enc_part_in read.0) in
     let x = authentic_by_keytab rows keys exchanges sent fields service greatest admitted message random read.0 admission step.0 realm read.1 (own read.0 read.1) step.1 in
-    record { admission = admission; is_made = is_made; entry = entry; authentic = at_once rows keys exchanges sent entry admitted admission step.0 x }
+    record { request = read.0; read = read.1; admission = admission; is_made = is_made; authentic = at_once rows keys exchanges sent entry admitted admission step.0 x }
 context_asked rows keys exchanges sent acceptor after moment message random admitted established realm own window (same, inr (cause, admits, e)) = absurd (cc (e))

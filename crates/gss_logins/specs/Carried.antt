@@ -5,7 +5,6 @@ use Rattle.krb_messages.specs.Messages.{IsApReq}
 use Rattle.krb_messages.specs.declared.messages.ap_req.ApReqInner.{ApReqInner}
 use Rattle.krb_kdc_exchanges.specs.Rows.{PkinitRows}
 use Rattle.krb_ap_requests.specs.ApTable.{enc_part_in}
-use Rattle.krb_ap_requests.specs.Entry.{EntryRecord}
 use Rattle.krb_ap_requests.specs.Presents.{Choice}
 use Rattle.krb_service.specs.Admission.{AdmissionRecord}
 use Rattle.krb_service.specs.ChosenEntry.{chosen}
@@ -51,10 +50,11 @@ IsAuthenticAfter rows keys exchanges sent accepted =
     (choice : Choice) × IsChosenAfter choice accepted
     × WasAuthenticated rows keys exchanges sent choice.part.crealm.0 choice.part.cname.0 choice.part.auth_time.0.0
 
--- the context is made of an admission whose client the realm had authenticated. If the session key is one of these, the client itself asked
--- for it: the flags, the bindings, the subkey and the first number are those of its request
-pub record IsAskedContext (rows : PkinitRows) (keys : List Bytes) (exchanges : List ExchangeRecord) (sent : SentRecord) (acceptor : AcceptorRecord) (random : Bytes) (established : EstablishedRecord) : Type 0 where
+-- the context is made of an admission of this AP-REQ, whose client the realm had authenticated. If the session key is one of these, the client
+-- itself asked for it: the flags, the bindings, the subkey and the first number are those of its request
+pub record IsAskedContext (rows : PkinitRows) (keys : List Bytes) (exchanges : List ExchangeRecord) (sent : SentRecord) (acceptor : AcceptorRecord) (message random : Bytes) (established : EstablishedRecord) : Type 0 where
+  pub request : ApReqInner
+  pub read : IsApReq message request
   pub admission : AdmissionRecord
   pub is_made : IsEstablished acceptor.terms acceptor.service.seen.skew random admission (Ok established)
-  pub entry : EntryRecord
-  pub authentic : IsAuthenticAt rows keys exchanges sent entry admission
+  pub authentic : IsAuthenticAt rows keys exchanges sent (chosen acceptor.service.entries (enc_part_in request)) admission

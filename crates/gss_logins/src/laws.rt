@@ -120,7 +120,7 @@ pub fn context_was_asked<P: Pkinit>(pkinit: &P)
     ensures { (keys : List (List ℕ)) (exchanges : List ExchangeRecord) (sent : SentRecord) (acceptor after : AcceptorRecord) (moment : ℕ) (message random : List ℕ) (admitted : List PairRecord)
         (established : EstablishedRecord) → IsRealmUnforged (P.rows pkinit.now) keys exchanges sent
         → IsMessageUnforged (P.rows pkinit.now) keys exchanges sent acceptor message → IsWindow acceptor.service.seen admitted
-        → Establishes acceptor moment message random (Ok established) after → IsAskedContext (P.rows pkinit.now) keys exchanges sent acceptor random established }
+        → Establishes acceptor moment message random (Ok established) after → IsAskedContext (P.rows pkinit.now) keys exchanges sent acceptor message random established }
 {}
 
 /// Where no ciphertext was forged, an initiator that asked for mutual authentication has its end by the AP-REP of a service. This service
