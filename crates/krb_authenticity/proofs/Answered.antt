@@ -43,7 +43,7 @@ use Rattle.krb_logins.proofs.Times.{moment_told}
 use Rattle.krb_authenticity.specs.Among.{IsAmong}
 use Rattle.krb_authenticity.specs.Ciphertexts.{CiphertextRecord, IsApReplyOf, IsUnforged, OpensApReply, ap_reply_under}
 use Rattle.krb_authenticity.specs.Parties.{AnswerRecord, ExchangeRecord, IsAnswerSent, SentRecord, answer_with, content_of, session_of}
-use Rattle.krb_authenticity.specs.Taken.{IsServicesReply}
+use Rattle.krb_authenticity.specs.Taken.{IsOpenedBy, IsServicesReply}
 use Rattle.krb_authenticity.proofs.Authenticated.{same_some}
 use Rattle.krb_authenticity.proofs.Made.{ap_reply_made}
 use Rattle.krb_authenticity.proofs.Opened.{OpensTo, number_is, one_opened, sealed_to}
@@ -80,7 +80,7 @@ outcome_made admitted after admission (Err code) e = let same = ap (λ (o : Outc
 
 module _ (entry : EntryRecord) (skew : ℕ) (fields : ReplyFields) (moment : ℕ) (admitted : List PairRecord) (message words : List ℕ) (admission : AdmissionRecord) where
   abbrev IsSent : Bytes → Type 0
-  IsSent reply = (p : Presented) × IsAnswerSent (answer_with p fields words admission reply)
+  IsSent reply = (p : Presented) × IsAnswerSent (answer_with p fields words admission reply) × IsOpenedBy entry message p
 
   sent_of : (reply : Bytes) → admission.reply ≡ Some reply → (request : ApReqInner) → IsApReq message request → (made : Admitted) → admission ≡ made.admission
       → (and_then (presented entry skew moment request) (once_with fields skew moment admitted words)).gives (Ok made) → IsSent reply
@@ -99,6 +99,7 @@ module _ (entry : EntryRecord) (skew : ℕ) (fields : ReplyFields) (moment : ℕ
               (IsReplyOf p.suite (session_of p) (ap_reply_confounder (cipher_confounder_size p.suite) words) (ap_rep_part_with fields p.suite words p.authenticator))
               answered.0 reply given answered.1;
         },
+        record { choice = received.choice; presents = received.presents; is_part = ap (λ (q : Presented). q.part) received.shown },
       )
 
   pub answer_sent : (after : List PairRecord) → (remembering_by entry skew fields moment admitted message words).gives (Ok admission, after) → (reply : Bytes) → admission.reply ≡ Some reply → IsSent reply

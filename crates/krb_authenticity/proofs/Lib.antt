@@ -12,6 +12,7 @@ pub mod Asked
 mod FurtherAsked
 mod ReplyParts
 pub mod Answered
+mod ReplyingServices
 mod HonestReplies
 mod Unforged
 pub mod Whole

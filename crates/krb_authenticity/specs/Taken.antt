@@ -6,13 +6,16 @@ use Rattle.krb_messages.specs.Messages.{IsAsRep}
 use Rattle.krb_messages.specs.declared.messages.kdc_rep.KdcRep.{KdcRep}
 use Rattle.krb_realm_accounts.specs.Account.{AccountRecord}
 use Rattle.krb_kdc_exchanges.specs.Rows.{PkinitRows}
+use Rattle.krb_ap_requests.specs.Entry.{EntryRecord}
+use Rattle.krb_ap_requests.specs.Presents.{Choice, Presents}
+use Rattle.krb_ap_requests.specs.declared.presented.Presented.{Presented}
 use Rattle.krb_tickets.specs.Grant.{GrantRecord}
 use Rattle.krb_tickets.specs.Parts.{flags_of}
 use Rattle.krb_client.specs.Asked.{ApAskedRecord, AsAskedRecord}
 use Rattle.krb_client.specs.Client.{ClientRecord, CredentialRecord}
 use Rattle.krb_client.specs.Means.{MeansRecord}
 use Rattle.krb_authenticity.specs.Among.{IsAmong}
-use Rattle.krb_authenticity.specs.Ciphertexts.{IsUnforged, OpensFirstReply}
+use Rattle.krb_authenticity.specs.Ciphertexts.{IsRequestUnforged, IsUnforged, OpensFirstReply}
 use Rattle.krb_authenticity.specs.Grants.{IsFirst, IsFurther, IsGranted}
 use Rattle.krb_authenticity.specs.Parties.{AnswerRecord, ExchangeRecord, IsAnswerSent, SentRecord}
 
@@ -60,3 +63,30 @@ pub record IsServicesReply (sent : SentRecord) (asked : ApAskedRecord) : Type 0 
   pub is_sent : IsAnswerSent answer
   pub session : answer.admission.session.key_value.0 ≡ asked.key
   pub at_time : answer.presented.time ≡ asked.time
+
+-- ---- which service it was
+
+-- a service opened the ticket of this request under the key of this entry, and this was presented to it
+pub record IsOpenedBy (entry : EntryRecord) (message : Bytes) (presented : Presented) : Type 0 where
+  pub choice : Choice
+  pub presents : Presents entry.key choice message
+  pub is_part : presented.part ≡ choice.part
+
+-- each service that sent an AP-REP had opened a request in which no ciphertext was forged
+abbrev pub AreAnswersOpened : PkinitRows → List Bytes → List ExchangeRecord → SentRecord → Type 0
+AreAnswersOpened rows keys exchanges sent =
+    (answer : AnswerRecord) → IsAmong answer sent.answered
+    → (entry : EntryRecord) × (message : Bytes) × IsOpenedBy entry message answer.presented × IsRequestUnforged rows keys exchanges sent entry message
+
+-- no session key was granted under the keys of two services
+abbrev pub AreSessionsApart : PkinitRows → List ExchangeRecord → Type 0
+AreSessionsApart rows exchanges =
+    (one other : ExchangeRecord) → IsAmong one exchanges → IsAmong other exchanges → (grant theirs : GrantRecord) (account found : AccountRecord)
+    → IsGranted rows one grant account → IsGranted rows other theirs found → grant.session ≡ theirs.session → account.key ≡ found.key
+
+-- the service that sent this answer had opened the request's ticket under this key
+pub record IsAnsweredUnder (key : Bytes) (answer : AnswerRecord) : Type 0 where
+  pub entry : EntryRecord
+  pub message : Bytes
+  pub opened : IsOpenedBy entry message answer.presented
+  pub keyed : key ≡ entry.key

@@ -40,7 +40,7 @@ ghost use Rattle.krb_authenticity.specs.Honest.{AreHonest, IsApReplyHonest, IsFi
 ghost use Rattle.krb_authenticity.specs.Named.{AreByOwnKeys, AreKeysApart, IsAskedByName};
 ghost use Rattle.krb_authenticity.specs.Parties.{ExchangeRecord, IsAnswerSent, IsClient, IsServiceSent, SentRecord, answer_with, service_request_of};
 ghost use Rattle.krb_authenticity.specs.Runs.{AreAsked, AreCallsUnforged, AreSessionsKept, IsAdmittedAt, IsAuthenticAt};
-ghost use Rattle.krb_authenticity.specs.Taken.{IsByFirst, IsByFurther, IsFirstReplyUnforged, IsServicesReply};
+ghost use Rattle.krb_authenticity.specs.Taken.{AreAnswersOpened, AreSessionsApart, IsAnsweredUnder, IsByFirst, IsByFurther, IsFirstReplyUnforged, IsOpenedBy, IsServicesReply};
 
 use krb_client::Means;
 use krb_kdc_exchanges::Pkinit;
@@ -148,11 +148,11 @@ pub fn each_was_authenticated<P: Pkinit>(pkinit: &P)
         → AreOnce after × (length after ≡ admissions_in answers) × AreAsked sent after }
 {}
 
-/// What a service replies to a request that it admits is such an answer of the service.
+/// What a service replies to a request that it admits is such an answer of the service, which had opened the request's ticket.
 pub fn answer_is_sent()
     ensures { (entry : EntryRecord) (skew : ℕ) (fields : ReplyFields) (moment : ℕ) (admitted : List PairRecord) (bytes words : List ℕ) (admission : AdmissionRecord) (after : List PairRecord)
         → (remembering_by entry skew fields moment admitted bytes words).gives (Ok admission, after) → (reply : List ℕ) → admission.reply ≡ Some reply
-        → (presented : Presented) × IsAnswerSent (answer_with presented fields words admission reply) }
+        → (presented : Presented) × IsAnswerSent (answer_with presented fields words admission reply) × IsOpenedBy entry bytes presented }
 {}
 
 /// What a client takes as the reply to its AS request the realm granted in an AS exchange, to a request with its nonce, under the key that
@@ -178,6 +178,14 @@ pub fn service_replied<P: Pkinit>(pkinit: &P)
     ensures { (keys : List (List ℕ)) (exchanges : List ExchangeRecord) (sent : SentRecord) (asked : ApAskedRecord) (bytes : List ℕ)
         → IsUnforged (P.rows pkinit.now) keys exchanges sent (OpensApReply asked bytes) → IsAmong asked.key keys
         → TakesApReply asked bytes (Ok tt) → IsServicesReply sent asked }
+{}
+
+/// Where moreover no session key was granted for two services, that service is the one for which the realm granted the ticket with this
+/// session key: it has the key of that account.
+pub fn replying_service_was_asked<P: Pkinit>(pkinit: &P)
+    ensures { (keys : List (List ℕ)) (exchanges : List ExchangeRecord) (sent : SentRecord) (asked : ApAskedRecord) → AreAnswersOpened (P.rows pkinit.now) keys exchanges sent
+        → AreSessionsApart (P.rows pkinit.now) exchanges → (it : IsServicesReply sent asked) (exchange : ExchangeRecord) → IsAmong exchange exchanges → (grant : GrantRecord) (account : AccountRecord)
+        → IsGranted (P.rows pkinit.now) exchange grant account → grant.session ≡ asked.key → IsAnsweredUnder account.key it.answer }
 {}
 
 /// The premise holds of honest runs: what comes as clients sent it, by tickets that they were granted, is unforged, whatever the keys.

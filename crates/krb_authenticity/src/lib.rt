@@ -8,7 +8,8 @@
 //! `admitted_was_authenticated`, `each_was_authenticated`). Where moreover no two accounts share a key, the client of that name asked for
 //! the first ticket by its key (`client_was_named`), and the ticket is for this service (`service_was_named`). What a client takes as a
 //! reply the realm granted to a request with its nonce (`first_reply_was_sent`, `further_reply_was_sent`). What it takes as an AP-REP a
-//! service sent that admitted a request of its session and time (`service_replied`). The steps are laws too: of tickets
+//! service sent that admitted a request of its session and time (`service_replied`). Where no session key was granted for two services, it
+//! is the one of the ticket (`replying_service_was_asked`). The steps are laws too: of tickets
 //! (`ticket_was_granted`, `grants_or_refuses`), of the first exchange (`client_was_authenticated`), of further ones (`further_was_asked`)
 //! and of the request to a service (`client_asked`, `presented_was_authenticated`). What clients and services of this stack write is what the
 //! premise speaks of (`ap_request_is_sent`, `answer_is_sent`).
