@@ -22,7 +22,7 @@ use Rattle.asn1_codec.proofs.NamedLemmas.{whole_text, nothing_inside, count_insi
 
 -- ---- filling
 
--- a read filled the end of a slice
+-- a read put octets at the end of a slice
 pub filled_slice : (old new : Option (List ℕ)) (start count : ℕ) (before read : List ℕ) → start ≤ length before → length read ≡ length before - start
     → count ≤ length read → Consumes old new (take count read) → (count < length read → IsAtEnd new)
     → IsFilled (length before) old new (take start before) (take (start + count) (put_mid start (length before - start) before read))
@@ -40,7 +40,7 @@ filled_slice old new start count before read within size few took end =
       end = λ short. end (omega (arith, short, sizes));
     }
 
--- a vector held some octets, and had room behind them, which was lent to be filled
+-- a vector held some octets, and had room after them, which was lent to a read
 pub filled_vector : (size start : ℕ) (old new : Option (List ℕ)) (held room lent filled after : List ℕ) → length held ≤ size → start ≡ length held
     → room ≡ take size held ++ replicate (size - length held) 0 → lent ≡ room → after ≡ filled → IsFilled (length lent) old new (take start lent) filled
     → IsFilled size old new held after
@@ -180,7 +180,7 @@ pub header_further : (size m : ℕ) (mid new : Option (List ℕ)) (first held af
 header_further size m mid new first held after text has same again filled =
     header_on size held filled.came text (subst (λ l. HasHeader l size) same has) (again ∙ filled.grown)
 
--- the octets behind the first are no length octets
+-- the octets after the first are no length octets
 pub told_length : (limit size first : ℕ) (held behind : List ℕ) (fault : Asn1DerError) → held ≡ first ∷ behind → HasHeader held size
     → IsWanting AreLengthOctets behind fault → TellsHeld limit size held fault
 told_length limit size first held behind TruncatedData is (one, two, rest, more, text, total, follows) wants tail within ends =

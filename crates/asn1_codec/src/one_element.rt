@@ -101,7 +101,7 @@ fn element_size(held: &[u8], header: usize, limit: usize) -> Result<usize, Asn1D
     Ok(held.len() + count)
 }
 
-// Takes octets behind those that are held, until they are `size`, or fewer at the reader's end.
+// Takes octets after those that are held, until they are `size`, or fewer at the reader's end.
 fn take_up_to<R: Source>(
     reader: &mut R,
     held: &mut Vec<u8>,
