@@ -92,7 +92,7 @@ module _ {T : Type 0} (reads : T → List ℕ → Type 0) (is_element : (value :
       let is : bytes ++ rest ≡ other ++ behind = cc (left) in
       only_element bytes rest one none [] other behind (omega (arith, within, small)) p (append-nil (bytes ++ rest) ∙ is)
 
-  IsOff : List ℕ → Type 0
+  abbrev IsOff : List ℕ → Type 0
   IsOff front = (EndsInside front → ⊥) × NeverBegins (IsReadBy reads) front
 
   never_front : (limit : ℕ) (bytes rest : List ℕ) → limit < 2 ^ 64 → length bytes ≤ limit → IsAnElement bytes → ((value : T) → reads value bytes → ⊥)
