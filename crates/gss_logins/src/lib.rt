@@ -2,7 +2,7 @@
 //!
 //! An honest login ends with two ends of one context, or memory runs out (laws `one_context`, and by SPNEGO `one_negotiated_context`): one
 //! key, opposite sides, and each takes the other's next number. What an honest login by password or certificate granted makes one by GSS
-//! honest (laws `granted_is_honest`, `exchanged_is_honest`), and `is_honest` answers true of such logins alone. What one end wraps the other
+//! honest (laws `granted_is_honest`, `exchanged_is_honest`), and `is_honest` answers true of exactly these. What one end wraps the other
 //! unwraps to the same message, and each MIC is right, as long as the numbers go up (law `one_conversation`).
 //!
 //! Where no ciphertext was forged, the realm had authenticated whoever gets a context (law `established_was_authenticated`). Both ends know
