@@ -11,7 +11,7 @@ use Rattle.krb_messages.specs.Messages.{IsApRep, ap_rep_tree, enc_ap_rep_part_tr
 use Rattle.krb_tickets.specs.Sealing.{sealed_opens}
 use Rattle.decision_tables.specs.Tables.{Table, done, refuse}
 use Rattle.krb_messages.specs.RandomBytes.{Random}
-use Rattle.krb_service.specs.ApReply.{IsReplyOf, ap_rep_of, ap_rep_part, ap_rep_part_with}
+use Rattle.krb_service.specs.ApReply.{IsReplyOf, ap_rep_of, ap_rep_part_with}
 use Rattle.krb_service.specs.declared.reply.ReplyFields.{ReplyFields}
 use Rattle.krb_service.specs.declared.reply.ReplyFields.TheVariants.{TimeAlone, SubkeyAndNumber}
 use Rattle.krb_client.specs.Asked.{ApAskedRecord}
