@@ -209,6 +209,10 @@ module _ (client_keys realm_keys : KeysRecord) (certificate : Bytes) (client_mom
           inl (parts, written_is client_keys.sign client.auth_data (pack_bytes call.body client_moment is.second is.value) certificate is.signed is.is_signed, given_by_content),
         )))
 
+    -- there is a grant
+    pub grant : (agreed : AgreedRecord) × (pkinit_table realm_keys trust call bytes).gives (Ok agreed)
+    grant = (agreed, given)
+
     -- the realm grants it
     pub granted : (result : Result AgreedRecord Code) → (pkinit_table realm_keys trust call bytes).gives result
         → IsGrantedAgreement realm_keys pkinit.own agreeing.realm_key.subject_public_key call.body.nonce.0 agreeing.secret result

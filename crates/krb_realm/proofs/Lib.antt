@@ -9,6 +9,7 @@ mod LoginMeans
 mod MadeClients
 mod Rows
 mod Honesty
+mod ExchangeAsked
 pub mod Shown
 mod Signatures
 mod HonestSignatures

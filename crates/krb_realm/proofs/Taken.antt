@@ -77,7 +77,7 @@ module _ (client_keys realm_keys : KeysRecord) (own realm_words : Bytes) (asked 
         given_by_info,
       ))
 
-  given : (secret_of client_keys asked reply).gives (Ok agreeing.secret)
+  pub given : (secret_of client_keys asked reply).gives (Ok agreeing.secret)
   unfolding secret_of
   given =
       inl (dh_reply_of is.signed, written_reply is.signed reply is.encoding, inl (parts, written_is realm_keys.sign dh_key_data content own is.signed is.is_signed, given_by_content))

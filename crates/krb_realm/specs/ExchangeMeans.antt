@@ -12,7 +12,7 @@ use Rattle.pkinit_validation.specs.Trust.{TrustRecord}
 use Rattle.krb_client.specs.Asked.{agreement_part}
 use Rattle.pkinit_clients.specs.Asked.{PkinitAskedRecord}
 use Rattle.pkinit_clients.specs.Means.{IsPkinitPadata, reply_key, sole_pkinit_padata}
-use Rattle.krb_realm.specs.Exchange.{IsHonestExchange}
+use Rattle.krb_realm.specs.Exchange.{IsExchangeMet, IsHonestExchange}
 
 -- what a client remembers of a request with this nonce, at the moment
 abbrev pub asked_at : ClientRecord → AnchorRecord → ℕ → Micros → Random → PkinitAskedRecord
@@ -24,12 +24,12 @@ asked_at client anchor nonce moment words = record {
   words = agreement_part words;
 }
 
--- the padata PA-PK-AS-REQ, where the exchange with this realm is honest
+-- the padata PA-PK-AS-REQ, where the exchange with this realm is honest; no request is refused where the premise of such an exchange is met
 abbrev pub exchange_means : ClientRecord → Bytes → AnchorRecord → KeysRecord → CallRecord → TrustRecord → KeysRecord → ℕ → MeansRecord
 exchange_means client certificate anchor keys call trust realm_keys nonce = record {
   asks = λ body moment words padata. IsPkinitPadata keys certificate body moment words padata
       × IsHonestExchange keys certificate trust realm_keys (pkinit_call call client.components body) (asked_at client anchor nonce moment words);
   sole_asks = λ body moment words a b x y. sole_pkinit_padata keys certificate body moment words a b x.0 y.0;
-  refuses = λ body moment words. Unit {0};
+  refuses = λ body moment words. IsExchangeMet keys certificate trust realm_keys (pkinit_call call client.components body) (asked_at client anchor nonce moment words) → ⊥;
   reply_key = reply_key keys anchor;
 }

@@ -1,33 +1,31 @@
 //! AS exchanges by certificate, judged by what client and realm make of each other's messages.
-ghost use Rattle.std.specs.Prelude.{◌≡◌, IfErr, IfOk, IsTrue, Ok, Some, length};
+ghost use Rattle.std.specs.Prelude.{◌≡◌, ◌↔◌, ◌⊎◌, IfErr, IfOk, IsTrue, Ok, length};
 ghost use Rattle.krb_time.specs.Skew.{IsWithinDay};
 ghost use Rattle.krb_messages.specs.RandomBytes.{AreEnoughForRequest};
-ghost use Rattle.picky_asn1_der.specs.Raw.{Raw};
 ghost use Rattle.krb_kdc_exchanges.specs.Call.{call_of, pkinit_call};
-ghost use Rattle.krb_kdc_exchanges.specs.PkinitCalls.{AgreedRecord};
 ghost use Rattle.krb_kdc_exchanges.specs.PkinitCalls as calls;
 ghost use Rattle.krb_client.specs.Asked.{agreement_part};
 ghost use Rattle.pkinit_clients.specs.Asked.{asked_of};
 ghost use Rattle.pkinit_clients.specs.Means.{IsPkinitPadata};
 ghost use Rattle.pkinit_clients.specs.Replies.{secret_of};
 ghost use Rattle.pkinit_clients.specs.Requests.{IsPkAsReqOf};
-ghost use Rattle.krb_realm.specs.Exchange.{IsHonestExchange};
+ghost use Rattle.krb_realm.specs.Exchange.{HasPublicKey, HaveOneSecret, IsAgreedBy, IsExchangeMet, IsHonestExchange};
 ghost use Rattle.krb_realm.specs.ExchangeMeans.{asked_at};
 ghost use Rattle.pkinit_validation.specs.PublicKeys.{IsPublicKey};
 ghost use Rattle.pkinit_validation.specs.declared.public_key.AgreementPublicKey.{AgreementPublicKey};
-ghost use Rattle.pkinit_validation.specs.PkinitTable.{pkinit_table};
 ghost use Rattle.pkinit_validation.specs.Trust.{trust_of};
 
 use krb_client::{AsAsked, AskRefusal, Client, Means, TakeRefusal, agreement_part};
 use krb_crypto::Key;
-use krb_kdc_exchanges::{Call, Pkinit, PkinitCall};
+use krb_kdc_exchanges::{Agreed, Call, Pkinit, PkinitCall};
+use krb_messages::Refusal;
 use krb_messages::data_types::PaData;
 use krb_messages::messages::{KdcRep, KdcReqBody};
 use krb_time::Moment;
 use picky_asn1_der::Asn1RawDer;
-use pkinit_clients::{ByCertificate, PkinitAsked, secret_of};
+use pkinit_clients::{ByCertificate, PkinitAsked, ReplyFault, secret_of};
 use pkinit_validation::{RealmPkinit, public_key_of};
-use std::alloc::Global;
+use std::alloc::{AllocError, Global};
 use x509_keys::KeyFunctions;
 
 /// A client's means by its certificate, which have padata only where the exchange with the realm is honest: the realm grants it, and
@@ -91,16 +89,25 @@ fn padata_if_honest<C: KeyFunctions, R: KeyFunctions>(
         (trust_of exchange.now.pkinit.now.anchor exchange.now.pkinit.now.certificate) (R.functions exchange.now.pkinit.now.keys.now)
         (pkinit_call (call_of exchange.now.realm.now) exchange.now.client.now.components body.now)
         (asked_at exchange.now.client.now exchange.now.own.now.anchor.now exchange.now.nonce moment words.now)) }
-    ensures refusal { IfErr result (λ refusal. refusal ≡ AskRefusal.NoKeyFunction) }
+    ensures refusal { IfErr result (λ refusal. (refusal ≡ AskRefusal.Memory) ⊎ ((refusal ≡ AskRefusal.NoKeyFunction)
+        × (IsPkinitPadata (C.functions exchange.now.own.now.keys.now) exchange.now.own.now.certificate.now body.now moment words.now padata
+        → IsExchangeMet (C.functions exchange.now.own.now.keys.now) exchange.now.own.now.certificate.now
+        (trust_of exchange.now.pkinit.now.anchor exchange.now.pkinit.now.certificate) (R.functions exchange.now.pkinit.now.keys.now)
+        (pkinit_call (call_of exchange.now.realm.now) exchange.now.client.now.components body.now)
+        (asked_at exchange.now.client.now exchange.now.own.now.anchor.now exchange.now.nonce moment words.now) → ⊥))) }
 {
-    if !is_honest_by(
+    let Ok(honest) = is_honest_by(
         alloc,
         exchange,
         body,
         moment,
         words,
         padata.padata_data.0.as_bytes(),
-    ) {
+    ) else {
+        drop(padata);
+        return Err(AskRefusal::Memory);
+    };
+    if !honest {
         drop(padata);
         return Err(AskRefusal::NoKeyFunction);
     }
@@ -115,14 +122,20 @@ fn is_honest_by<C: KeyFunctions, R: KeyFunctions>(
     moment: Moment,
     words: &[u8],
     padata: &[u8],
-) -> bool
+) -> Result<bool, AllocError>
     requires { AreEnoughForRequest words.now }
-    ensures { IsTrue result
+    ensures honest { IfOk result (λ is. IsTrue is
         → IsPkAsReqOf (C.functions exchange.now.own.now.keys.now) exchange.now.own.now.certificate.now body.now moment (agreement_part words.now) padata.now
         → IsHonestExchange (C.functions exchange.now.own.now.keys.now) exchange.now.own.now.certificate.now
         (trust_of exchange.now.pkinit.now.anchor exchange.now.pkinit.now.certificate) (R.functions exchange.now.pkinit.now.keys.now)
         (pkinit_call (call_of exchange.now.realm.now) exchange.now.client.now.components body.now)
-        (asked_at exchange.now.client.now exchange.now.own.now.anchor.now exchange.now.nonce moment words.now) }
+        (asked_at exchange.now.client.now exchange.now.own.now.anchor.now exchange.now.nonce moment words.now)) }
+    ensures met { IfOk result (λ is.
+        IsPkAsReqOf (C.functions exchange.now.own.now.keys.now) exchange.now.own.now.certificate.now body.now moment (agreement_part words.now) padata.now
+        → IsExchangeMet (C.functions exchange.now.own.now.keys.now) exchange.now.own.now.certificate.now
+        (trust_of exchange.now.pkinit.now.anchor exchange.now.pkinit.now.certificate) (R.functions exchange.now.pkinit.now.keys.now)
+        (pkinit_call (call_of exchange.now.realm.now) exchange.now.client.now.components body.now)
+        (asked_at exchange.now.client.now exchange.now.own.now.anchor.now exchange.now.nonce moment words.now) → IsTrue is) }
 {
     let agreement = agreement_part(words);
     let asked = PkinitAsked {
@@ -140,10 +153,7 @@ fn is_honest_by<C: KeyFunctions, R: KeyFunctions>(
         moment: exchange.realm.moment,
         words: exchange.realm.words,
     };
-    if !has_public_key(alloc, exchange.own.keys, agreement) {
-        return false;
-    }
-    has_one_secret(
+    is_agreed_by(
         alloc,
         exchange.own.keys,
         exchange.pkinit,
@@ -151,6 +161,27 @@ fn is_honest_by<C: KeyFunctions, R: KeyFunctions>(
         &asked,
         padata,
     )
+}
+
+// Whether both come to one secret, by these padata and by the client's public key.
+fn is_agreed_by<C: KeyFunctions, R: KeyFunctions>(
+    alloc: Global,
+    keys: &C,
+    pkinit: &RealmPkinit<'_, R>,
+    call: &PkinitCall<'_>,
+    asked: &PkinitAsked<'_>,
+    padata: &[u8],
+) -> Result<bool, AllocError>
+    requires near { IsWithinDay call.now.skew }
+    requires sized { length asked.now.words.now ≡ 64 }
+    ensures { IfOk result (λ is. IsTrue is ↔ IsAgreedBy (C.functions keys.now) (trust_of pkinit.now.anchor pkinit.now.certificate) (R.functions pkinit.now.keys.now)
+        (calls.call_of call.now) (asked_of asked.now) padata.now) }
+{
+    let has_key = has_public_key(alloc, keys, asked.words)?;
+    if !has_key {
+        return Ok(false);
+    }
+    has_one_secret(alloc, keys, pkinit, call, asked, padata)
 }
 
 // Whether the realm grants a request with these padata, and the client takes the same secret from the reply.
@@ -161,47 +192,73 @@ fn has_one_secret<C: KeyFunctions, R: KeyFunctions>(
     call: &PkinitCall<'_>,
     asked: &PkinitAsked<'_>,
     padata: &[u8],
-) -> bool
+) -> Result<bool, AllocError>
     requires near { IsWithinDay call.now.skew }
     requires sized { length asked.now.words.now ≡ 64 }
-    ensures { IsTrue result → (agreed : AgreedRecord)
-        × (pkinit_table (R.functions pkinit.now.keys.now) (trust_of pkinit.now.anchor pkinit.now.certificate) (calls.call_of call.now) padata.now).gives (Ok agreed)
-        × (secret_of (C.functions keys.now) (asked_of asked.now) agreed.reply).gives (Ok agreed.secret) }
+    ensures { IfOk result (λ is. IsTrue is ↔ HaveOneSecret (C.functions keys.now) (trust_of pkinit.now.anchor pkinit.now.certificate) (R.functions pkinit.now.keys.now)
+        (calls.call_of call.now) (asked_of asked.now) padata.now) }
 {
     if call.words.len() < 128 {
-        return false;
+        return Ok(false);
     }
-    let Ok(agreed) = pkinit.judge(alloc, call, padata) else {
-        return false;
-    };
-    let taken = secret_of(alloc, keys, asked, &agreed.reply);
-    let same = match &taken {
-        Ok(secret) => secret.as_slice() == agreed.secret.as_slice(),
-        Err(_) => false,
-    };
-    drop(taken);
-    drop(agreed);
-    same
+    match pkinit.judge(alloc, call, padata) {
+        Ok(agreed) => {
+            let taken = takes_secret(alloc, keys, asked, &agreed);
+            drop(agreed);
+            taken
+        }
+        Err(Refusal::Krb(_)) => Ok(false),
+        Err(Refusal::Memory) => Err(AllocError),
+    }
+}
+
+// Whether the client takes the realm's secret from the reply.
+fn takes_secret<K: KeyFunctions>(
+    alloc: Global,
+    keys: &K,
+    asked: &PkinitAsked<'_>,
+    agreed: &Agreed,
+) -> Result<bool, AllocError>
+    requires { length asked.now.words.now ≡ 64 }
+    ensures { IfOk result (λ is. IsTrue is ↔ (secret_of (K.functions keys.now) (asked_of asked.now) agreed.now.reply.items).gives (Ok agreed.now.secret.items)) }
+{
+    match secret_of(alloc, keys, asked, agreed.reply.as_slice()) {
+        Ok(secret) => Ok(is_same(secret.as_slice(), agreed.secret.as_slice())),
+        Err(ReplyFault::NotTrusted) => Ok(false),
+        Err(ReplyFault::Memory) => Err(AllocError),
+    }
+}
+
+// Whether two secrets are the same.
+fn is_same(secret: &[u8], other: &[u8]) -> bool
+    ensures { IsTrue result ↔ (secret.now ≡ other.now) }
+{
+    secret == other
 }
 
 // Whether the party has a public key of its agreement by these random bytes.
-fn has_public_key<K: KeyFunctions>(alloc: Global, keys: &K, words: &[u8]) -> bool
+fn has_public_key<K: KeyFunctions>(
+    alloc: Global,
+    keys: &K,
+    words: &[u8],
+) -> Result<bool, AllocError>
     requires { length words.now ≡ 64 }
-    ensures { IsTrue result → (element : Raw) × ((K.functions keys.now).public_value words.now ≡ Some element)
-        × ((key : AgreementPublicKey) × IsPublicKey element key) }
+    ensures { IfOk result (λ is. IsTrue is ↔ HasPublicKey (K.functions keys.now) words.now) }
 {
-    match keys.public_value(alloc, words) {
-        Ok(Some(element)) => is_public_key(alloc, &element),
-        _ => false,
+    let made = keys.public_value(alloc, words)?;
+    match made {
+        Some(element) => is_public_key(alloc, &element),
+        None => Ok(false),
     }
 }
 
 // Whether the element is a public key's encoding.
-fn is_public_key(alloc: Global, element: &Asn1RawDer) -> bool
-    ensures { IsTrue result → (key : AgreementPublicKey) × IsPublicKey element.now key }
+fn is_public_key(alloc: Global, element: &Asn1RawDer) -> Result<bool, AllocError>
+    ensures { IfOk result (λ is. IsTrue is ↔ ((key : AgreementPublicKey) × IsPublicKey element.now key)) }
 {
-    match public_key_of(alloc, element) {
-        Ok(Some(_)) => true,
-        _ => false,
+    let found = public_key_of(alloc, element)?;
+    match found {
+        Some(_) => Ok(true),
+        None => Ok(false),
     }
 }

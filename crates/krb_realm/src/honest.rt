@@ -32,10 +32,7 @@ pub fn is_honest_by_password(
     let asking = client.asking();
     let call = realm.call(input.moments.realm_as, input.realm_words_as);
     match client.means(&NoKeys).held {
-        Held::Key(own) => {
-            let honest = is_honest_by_key(alloc, asking, &own.key, &call, service, input)?;
-            Ok(honest)
-        }
+        Held::Key(own) => is_honest_by_key(alloc, asking, &own.key, &call, service, input),
         Held::Certificate(_, _) => Ok(false),
     }
 }

@@ -9,9 +9,9 @@
 //!
 //! A client requests and takes replies as its means say, those of its password or of its certificate (`means_of`). A whole login is a
 //! run of client, realm and service on every input, and the first refusal ends it (`LoginRun`). Every login has one outcome (law
-//! `one_login`). An honest login ends with one session key at client and service, under the client's name (`IsOneKey`). A login that is
-//! told to be honest is honest (`is_honest_by_password`, `is_honest_by_certificate`). In an honest AS exchange by certificate the
-//! client has a request, the realm grants it (law `agreement_granted`), and the client takes the reply's secret (law
+//! `one_login`). An honest login ends with one session key at client and service, under the client's name (`IsOneKey`).
+//! `is_honest_by_password` and `is_honest_by_certificate` answer true of exactly the honest logins. In an honest AS exchange by
+//! certificate the client has a request, the realm grants it (law `agreement_granted`), and the client takes the reply's secret (law
 //! `agreement_taken`). An honest login by certificate ends with one session key, or memory runs out (law `one_key_by_certificate`).
 //! `IsHonestByCertificate` requires of the key functions that, in this login, each party accepts the other's certificate and
 //! signature, and both come to one secret.
