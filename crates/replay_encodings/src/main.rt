@@ -15,8 +15,9 @@ mod tokens;
 mod x509;
 
 use anyhow::bail;
+use picky_asn1_der::Deserialize;
 use std::alloc::Global;
-use test_support::{Answer, Lines, Recorded, recorded_of, replay};
+use test_support::{Answer, Lines, Recorded, is_told, recorded_of, replay};
 
 /// Messages, and what they hold.
 struct Messages;
@@ -71,7 +72,7 @@ fn answered(type_name: &str, answer: Option<Answer>) -> anyhow::Result<bool> {
 }
 
 fn answer_of(alloc: Global, recorded: &Recorded<'_>) -> Option<Answer> {
-    let answers = [
+    first_of(&[
         names::agrees(alloc, recorded),
         sealed::agrees(alloc, recorded),
         tickets::agrees(alloc, recorded),
@@ -81,6 +82,28 @@ fn answer_of(alloc: Global, recorded: &Recorded<'_>) -> Option<Answer> {
         credentials::agrees(alloc, recorded),
         odd::agrees(alloc, recorded),
         tokens::agrees(alloc, recorded),
-    ];
-    answers.iter().flatten().next().copied()
+    ])
+}
+
+/// The first answer that is given. Each type of messages is one call in an array of answers, which has no branch: a function for each
+/// type, or a match over their names, costs more to prove.
+fn first_of<A: Copy>(answers: &[Option<A>]) -> Option<A> {
+    for answer in answers {
+        if answer.is_some() {
+            return *answer;
+        }
+    }
+    None
+}
+
+/// Whether a message is read and written as expected, if the line names this type; none for any other type.
+fn told_as<T: Deserialize + Drop>(
+    alloc: Global,
+    recorded: &Recorded<'_>,
+    type_name: &str,
+) -> Option<Answer> {
+    if recorded.type_name != type_name {
+        return None;
+    }
+    Some(is_told::<T>(alloc, recorded))
 }

@@ -11,6 +11,7 @@ mod names;
 mod printed;
 mod told;
 
+use crate::first_of;
 use anyhow::bail;
 use line::{Recorded, recorded_of};
 use std::alloc::Global;
@@ -62,20 +63,12 @@ fn is_spelled(alloc: Global, recorded: &Recorded<'_>) -> anyhow::Result<bool> {
 
 /// The answer of the first module that knows the spelling's type. There is none if no module knows it.
 fn answer_of(alloc: Global, recorded: &Recorded<'_>) -> Option<Answer> {
-    if let Some(answer) = algorithms::agrees(alloc, recorded) {
-        return Some(answer);
-    }
-    if let Some(answer) = names::agrees(alloc, recorded) {
-        return Some(answer);
-    }
-    if let Some(answer) = extensions::agrees(alloc, recorded) {
-        return Some(answer);
-    }
-    if let Some(answer) = keys::agrees(alloc, recorded) {
-        return Some(answer);
-    }
-    if let Some(answer) = certificates::agrees(alloc, recorded) {
-        return Some(answer);
-    }
-    made::agrees(alloc, recorded)
+    first_of(&[
+        algorithms::agrees(alloc, recorded),
+        names::agrees(alloc, recorded),
+        extensions::agrees(alloc, recorded),
+        keys::agrees(alloc, recorded),
+        certificates::agrees(alloc, recorded),
+        made::agrees(alloc, recorded),
+    ])
 }

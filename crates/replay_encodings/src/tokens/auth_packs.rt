@@ -1,34 +1,21 @@
-//! What clients sign, by the kinds of public values. Each type has a function of its own, since one match over all of them is
-//! dear to prove.
-use crate::tokens::copies::is_copied;
+//! What clients sign, by the kinds of public values.
+use crate::tokens::copies::copied_as;
+use crate::{first_of, told_as};
 use anyhow::bail;
 use picky_asn1_der::{Asn1RawDer, FromDer, from_exact_bytes};
 use pkinit_messages::{AuthPack, DhAuthPack, EcAuthPack};
 use std::alloc::Global;
 use std::fmt::Debug;
 use std::fs;
-use test_support::{Answer, Recorded, is_told, recorded_of};
+use test_support::{Answer, Recorded, recorded_of};
 
 /// Whether such a value is read and written as expected; none for any other type.
 pub fn agrees(alloc: Global, recorded: &Recorded<'_>) -> Option<Answer> {
-    match recorded.type_name {
-        "AuthPack<Asn1RawDer>" => Some(auth_pack(alloc, recorded)),
-        "DhAuthPack" => Some(dh_auth_pack(alloc, recorded)),
-        "EcAuthPack" => Some(ec_auth_pack(alloc, recorded)),
-        _ => None,
-    }
-}
-
-fn auth_pack(alloc: Global, recorded: &Recorded<'_>) -> Answer {
-    is_told::<AuthPack<Asn1RawDer>>(alloc, recorded)
-}
-
-fn dh_auth_pack(alloc: Global, recorded: &Recorded<'_>) -> Answer {
-    is_copied::<DhAuthPack>(alloc, recorded)
-}
-
-fn ec_auth_pack(alloc: Global, recorded: &Recorded<'_>) -> Answer {
-    is_copied::<EcAuthPack>(alloc, recorded)
+    first_of(&[
+        told_as::<AuthPack<Asn1RawDer>>(alloc, recorded, "AuthPack<Asn1RawDer>"),
+        copied_as::<DhAuthPack>(alloc, recorded, "DhAuthPack"),
+        copied_as::<EcAuthPack>(alloc, recorded, "EcAuthPack"),
+    ])
 }
 
 /// Prints the first value of the file that is signed for an agreement on a curve.

@@ -3,8 +3,20 @@ use picky_asn1_der::{Asn1DerError, Deserialize, Serialize, from_exact_bytes};
 use std::alloc::Global;
 use test_support::{Answer, Recorded, is_refused, is_written};
 
+/// Whether a message is copied as expected, if the line names this type; none for any other type.
+pub fn copied_as<T: Deserialize + Clone + PartialEq + Drop>(
+    alloc: Global,
+    recorded: &Recorded<'_>,
+    type_name: &str,
+) -> Option<Answer> {
+    if recorded.type_name != type_name {
+        return None;
+    }
+    Some(is_copied::<T>(alloc, recorded))
+}
+
 /// Whether a message is read as expected, and a copy of it is equal to it and written as expected.
-pub fn is_copied<T: Deserialize + Clone + PartialEq + Drop>(
+fn is_copied<T: Deserialize + Clone + PartialEq + Drop>(
     alloc: Global,
     recorded: &Recorded<'_>,
 ) -> Answer {

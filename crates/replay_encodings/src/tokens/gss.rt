@@ -1,4 +1,5 @@
-//! Tokens, by the names of their types. Each type has a function of its own, since one match over all of them is dear to prove.
+//! Tokens, by the names of their types.
+use crate::{first_of, told_as};
 use picky_asn1_der::{FromDer, Serialize, to_vec};
 use picky_krb::gss_api::{
     ApplicationTag0, GssApiNegInit, IAKerbProxyMessage, KrbMessage, MechType, MechTypeList,
@@ -6,61 +7,52 @@ use picky_krb::gss_api::{
 };
 use picky_krb::messages::{AsReq, IAKerbHeader, TgtRep};
 use std::alloc::Global;
-use test_support::{Answer, Recorded, are_wanted, is_read_told, is_refused, is_told};
+use test_support::{Answer, Recorded, are_wanted, is_read_told, is_refused};
 
 /// Whether a token of such a type is read and written as expected; none for any other type.
 pub fn agrees(alloc: Global, recorded: &Recorded<'_>) -> Option<Answer> {
+    first_of(&[
+        told_as::<ApplicationTag0<GssApiNegInit>>(
+            alloc,
+            recorded,
+            "ApplicationTag0<GssApiNegInit>",
+        ),
+        told_as::<ApplicationTag0<IAKerbProxyMessage<AsReq>>>(
+            alloc,
+            recorded,
+            "ApplicationTag0<IAKerbProxyMessage<AsReq>>",
+        ),
+        told_as::<ApplicationTag0<KrbMessage<TgtRep>>>(
+            alloc,
+            recorded,
+            "ApplicationTag0<KrbMessage<TgtRep>>",
+        ),
+        told_as::<GssApiNegInit>(alloc, recorded, "GssApiNegInit"),
+        told_as::<MechType>(alloc, recorded, "MechType"),
+        told_as::<MechTypeList>(alloc, recorded, "MechTypeList"),
+        told_as::<NegTokenInit>(alloc, recorded, "NegTokenInit"),
+        told_as::<NegTokenTarg>(alloc, recorded, "NegTokenTarg"),
+        told_as::<NegTokenTarg1>(alloc, recorded, "NegTokenTarg1"),
+        other(alloc, recorded),
+    ])
+}
+
+/// The same of tokens that are read and written in a way of their own.
+fn other(alloc: Global, recorded: &Recorded<'_>) -> Option<Answer> {
     match recorded.type_name {
-        "ApplicationTag0<GssApiNegInit>" => Some(application_tag0(alloc, recorded)),
-        "ApplicationTag0<IAKerbProxyMessage<AsReq>>" => Some(proxied_token(alloc, recorded)),
-        "ApplicationTag0<KrbMessage<TgtRep>>" => Some(krb_token(alloc, recorded)),
-        "GssApiNegInit" => Some(gss_api_neg_init(alloc, recorded)),
         "IAKerbHeader" => Some(ia_kerb_header(alloc, recorded)),
         "IAKerbProxyMessage<AsReq>" => Some(proxied_as_req(alloc, recorded)),
         "IAKerbProxyMessage<AsReq>::to_sequence" => Some(proxied_sequence(alloc, recorded)),
         "KrbMessage<TgtRep>" => Some(krb_message(alloc, recorded)),
         "KrbMessage<TgtRep>::to_sequence" => Some(message_sequence(alloc, recorded)),
-        "MechType" => Some(mech_type(alloc, recorded)),
-        "MechTypeList" => Some(mech_type_list(alloc, recorded)),
         "MicToken" => Some(Ok(is_mic(alloc, recorded))),
-        "NegTokenInit" => Some(neg_token_init(alloc, recorded)),
-        "NegTokenTarg" => Some(neg_token_targ(alloc, recorded)),
-        "NegTokenTarg1" => Some(neg_token_targ1(alloc, recorded)),
         "WrapToken" => Some(Ok(is_wrap(alloc, recorded))),
         _ => None,
     }
 }
 
-fn application_tag0(alloc: Global, recorded: &Recorded<'_>) -> Answer {
-    is_told::<ApplicationTag0<GssApiNegInit>>(alloc, recorded)
-}
-
-fn gss_api_neg_init(alloc: Global, recorded: &Recorded<'_>) -> Answer {
-    is_told::<GssApiNegInit>(alloc, recorded)
-}
-
 fn ia_kerb_header(alloc: Global, recorded: &Recorded<'_>) -> Answer {
     is_read_told::<IAKerbHeader>(alloc, recorded)
-}
-
-fn mech_type(alloc: Global, recorded: &Recorded<'_>) -> Answer {
-    is_told::<MechType>(alloc, recorded)
-}
-
-fn mech_type_list(alloc: Global, recorded: &Recorded<'_>) -> Answer {
-    is_told::<MechTypeList>(alloc, recorded)
-}
-
-fn neg_token_init(alloc: Global, recorded: &Recorded<'_>) -> Answer {
-    is_told::<NegTokenInit>(alloc, recorded)
-}
-
-fn neg_token_targ(alloc: Global, recorded: &Recorded<'_>) -> Answer {
-    is_told::<NegTokenTarg>(alloc, recorded)
-}
-
-fn neg_token_targ1(alloc: Global, recorded: &Recorded<'_>) -> Answer {
-    is_told::<NegTokenTarg1>(alloc, recorded)
 }
 
 fn proxied_as_req(alloc: Global, recorded: &Recorded<'_>) -> Answer {
@@ -69,14 +61,6 @@ fn proxied_as_req(alloc: Global, recorded: &Recorded<'_>) -> Answer {
 
 fn krb_message(alloc: Global, recorded: &Recorded<'_>) -> Answer {
     Ok(is_message::<TgtRep>(alloc, recorded))
-}
-
-fn krb_token(alloc: Global, recorded: &Recorded<'_>) -> Answer {
-    is_told::<ApplicationTag0<KrbMessage<TgtRep>>>(alloc, recorded)
-}
-
-fn proxied_token(alloc: Global, recorded: &Recorded<'_>) -> Answer {
-    is_told::<ApplicationTag0<IAKerbProxyMessage<AsReq>>>(alloc, recorded)
 }
 
 fn proxied_sequence(alloc: Global, recorded: &Recorded<'_>) -> Answer {

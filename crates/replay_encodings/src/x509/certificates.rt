@@ -1,20 +1,28 @@
-//! Certificates and requests, by the names of their types. Each type has a function of its own, since one match over all of them is dear to prove.
+//! Certificates and requests, by the names of their types.
 
+use crate::first_of;
 use crate::x509::line::Recorded;
-use crate::x509::told::{Answer, is_told};
+use crate::x509::told::{Answer, is_told, spelled_as};
 use std::alloc::Global;
 use x509_certificates::{
     Certificate, CertificationRequest, CertificationRequestInfo, TbsCertificate,
 };
-use x509_spelling::X509Fault;
+use x509_spelling::{Spelled, X509Fault};
 
 /// Whether a spelling of such a type is read, counted and rewritten as expected; none for any other type.
 pub fn agrees(alloc: Global, recorded: &Recorded<'_>) -> Option<Answer> {
+    first_of(&[
+        spelled_as::<CertificationRequestInfo>(alloc, recorded, "CertificationRequestInfo"),
+        spelled_as::<TbsCertificate>(alloc, recorded, "TbsCertificate"),
+        other(alloc, recorded),
+    ])
+}
+
+/// The same of what has a signed part.
+fn other(alloc: Global, recorded: &Recorded<'_>) -> Option<Answer> {
     match recorded.type_name {
         "Certificate" => Some(certificate(alloc, recorded)),
         "CertificationRequest" => Some(certification_request(alloc, recorded)),
-        "CertificationRequestInfo" => Some(certification_request_info(alloc, recorded)),
-        "TbsCertificate" => Some(tbs_certificate(alloc, recorded)),
         _ => None,
     }
 }
@@ -37,16 +45,8 @@ fn certification_request(alloc: Global, recorded: &Recorded<'_>) -> Answer {
     is_told::<CertificationRequest>(alloc, recorded)
 }
 
-fn certification_request_info(alloc: Global, recorded: &Recorded<'_>) -> Answer {
-    is_told::<CertificationRequestInfo>(alloc, recorded)
-}
-
-fn tbs_certificate(alloc: Global, recorded: &Recorded<'_>) -> Answer {
-    is_told::<TbsCertificate>(alloc, recorded)
-}
-
 /// Whether the part that is borrowed is the one whose place the line gives.
-fn is_lent<T: Drop>(recorded: &Recorded<'_>, lent: Result<(T, &[u8]), X509Fault>) -> Answer {
+fn is_lent<T: Spelled>(recorded: &Recorded<'_>, lent: Result<(T, &[u8]), X509Fault>) -> Answer {
     match lent {
         Ok((_, part)) => Ok(recorded.has_signed(part)),
         Err(X509Fault::Memory) => Err(X509Fault::Memory),

@@ -1,10 +1,10 @@
-//! Values as text.
+//! Values as text. What owns a value is generic, since a drop at a type of X.509 is dear to prove.
 use crate::x509::told::Answer;
 use anyhow::{Context, bail};
 use picky_asn1::wrapper::ObjectIdentifierAsn1;
 use picky_asn1_x509::{
     AlgorithmIdentifier, Certificate, DirectoryString, GeneralName, Name, NamePrettyFormatter,
-    ShaVariant, UnsupportedAlgorithmError, X509Fault, from_bytes,
+    ShaVariant, Spelled, UnsupportedAlgorithmError, X509Fault, from_bytes,
 };
 use std::alloc::{AllocError, Global};
 use std::fmt;
@@ -14,58 +14,105 @@ pub fn agrees(alloc: Global, line: &str) -> anyhow::Result<bool> {
     let (type_name, rest) = line.split_once(" | ").context("a line of one column")?;
     let (digits, text) = rest.split_once(" | ").context("a line of two columns")?;
     let bytes = hex::decode(alloc, digits)?;
-    let answer = match type_name {
-        "AltNames" => alt_names(alloc, &bytes, text),
-        "BasicConstraints" => basic_constraints(alloc, &bytes, text),
-        "CommonName" => common_name(alloc, &bytes, text),
-        "DirectoryString" => directory_string(alloc, &bytes, text),
-        "GeneralName" => general_name(alloc, &bytes, text),
-        "KeyUsage" => key_usage(alloc, &bytes, text),
-        "Name" => name(alloc, &bytes, text),
-        "Rfc4514" => rfc4514(alloc, &bytes, text),
-        "UnsupportedAlgorithmError" => unsupported(alloc, &bytes, text),
-        other => bail!("no type {other}"),
-    };
-    Ok(answer?)
+    match answer_of(alloc, type_name, &bytes, text) {
+        Some(answer) => Ok(answer?),
+        None => bail!("no type {type_name}"),
+    }
 }
 
-fn directory_string(alloc: Global, bytes: &[u8], text: &str) -> Answer {
-    let string: DirectoryString = from_bytes(alloc, bytes)?;
-    let lossy = string.to_utf8_lossy(alloc)?;
-    Ok(lossy.as_str() == text && is_printed(alloc, &string, text)?)
+fn answer_of(alloc: Global, type_name: &str, bytes: &[u8], text: &str) -> Option<Answer> {
+    match type_name {
+        "AltNames" => Some(is_told::<Certificate, AltNames>(alloc, bytes, text)),
+        "BasicConstraints" => Some(is_told::<Certificate, Constraints>(alloc, bytes, text)),
+        "CommonName" => Some(is_told::<Name, CommonName>(alloc, bytes, text)),
+        "DirectoryString" => Some(is_told::<DirectoryString, Plain>(alloc, bytes, text)),
+        "GeneralName" => Some(is_told::<GeneralName, Plain>(alloc, bytes, text)),
+        "KeyUsage" => Some(is_told::<Certificate, Usage>(alloc, bytes, text)),
+        "Name" => Some(is_told::<Name, Plain>(alloc, bytes, text)),
+        "Rfc4514" => Some(is_told::<Name, Rfc4514>(alloc, bytes, text)),
+        "UnsupportedAlgorithmError" => Some(unsupported(alloc, bytes, text)),
+        _ => None,
+    }
 }
 
-fn name(alloc: Global, bytes: &[u8], text: &str) -> Answer {
-    let name: Name = from_bytes(alloc, bytes)?;
-    Ok(is_printed(alloc, &name, text)? && is_printed(alloc, &NamePrettyFormatter(&name), text)?)
+/// What a value of this type tells as text.
+trait Tells<T> {
+    /// Whether this is the text.
+    fn is_text(alloc: Global, value: &T, text: &str) -> Answer;
+}
+
+/// Whether the value that the bytes spell tells this text.
+fn is_told<T: Spelled, S: Tells<T>>(alloc: Global, bytes: &[u8], text: &str) -> Answer {
+    match from_bytes::<T>(alloc, bytes) {
+        Ok(value) => S::is_text(alloc, &value, text),
+        Err(fault) => Err(fault),
+    }
+}
+
+/// What the value prints.
+struct Plain;
+
+impl Tells<DirectoryString> for Plain {
+    fn is_text(alloc: Global, string: &DirectoryString, text: &str) -> Answer {
+        let lossy = string.to_utf8_lossy(alloc)?;
+        Ok(lossy.as_str() == text && is_printed(alloc, string, text)?)
+    }
+}
+
+impl Tells<Name> for Plain {
+    fn is_text(alloc: Global, name: &Name, text: &str) -> Answer {
+        Ok(is_printed(alloc, name, text)? && is_printed(alloc, &NamePrettyFormatter(name), text)?)
+    }
+}
+
+impl Tells<GeneralName> for Plain {
+    fn is_text(alloc: Global, name: &GeneralName, text: &str) -> Answer {
+        is_printed(alloc, name, text)
+    }
 }
 
 /// A name in the notation of RFC 4514.
-fn rfc4514(alloc: Global, bytes: &[u8], text: &str) -> Answer {
-    let name: Name = from_bytes(alloc, bytes)?;
-    is_printed(alloc, &name.rfc4514(), text)
+struct Rfc4514;
+
+impl Tells<Name> for Rfc4514 {
+    fn is_text(alloc: Global, name: &Name, text: &str) -> Answer {
+        is_printed(alloc, &name.rfc4514(), text)
+    }
 }
 
-fn general_name(alloc: Global, bytes: &[u8], text: &str) -> Answer {
-    let name: GeneralName = from_bytes(alloc, bytes)?;
-    is_printed(alloc, &name, text)
+/// The first common name of a name.
+struct CommonName;
+
+impl Tells<Name> for CommonName {
+    fn is_text(alloc: Global, name: &Name, text: &str) -> Answer {
+        match name.find_common_name() {
+            Some(common_name) => is_printed(alloc, common_name, text),
+            None => Ok(false),
+        }
+    }
 }
 
 /// What the extension for it of a certificate prints, `none` where there is none.
-fn key_usage(alloc: Global, bytes: &[u8], text: &str) -> Answer {
-    let certificate: Certificate = from_bytes(alloc, bytes)?;
-    match certificate.key_usage() {
-        Some(usage) => is_printed(alloc, usage, text),
-        None => Ok(text == "none"),
+struct Usage;
+
+impl Tells<Certificate> for Usage {
+    fn is_text(alloc: Global, certificate: &Certificate, text: &str) -> Answer {
+        match certificate.key_usage() {
+            Some(usage) => is_printed(alloc, usage, text),
+            None => Ok(text == "none"),
+        }
     }
 }
 
 /// The further names of a certificate's subject, with `, ` between each two.
-fn alt_names(alloc: Global, bytes: &[u8], text: &str) -> Answer {
-    let certificate: Certificate = from_bytes(alloc, bytes)?;
-    match certificate.subject_alt_names() {
-        Some(names) => are_printed(alloc, names.as_slice(), text),
-        None => Ok(text == "none"),
+struct AltNames;
+
+impl Tells<Certificate> for AltNames {
+    fn is_text(alloc: Global, certificate: &Certificate, text: &str) -> Answer {
+        match certificate.subject_alt_names() {
+            Some(names) => are_printed(alloc, names.as_slice(), text),
+            None => Ok(text == "none"),
+        }
     }
 }
 
@@ -83,20 +130,14 @@ fn are_printed(alloc: Global, names: &[GeneralName], text: &str) -> Answer {
 }
 
 /// Whether a certificate says that it is an authority's.
-fn basic_constraints(alloc: Global, bytes: &[u8], text: &str) -> Answer {
-    let certificate: Certificate = from_bytes(alloc, bytes)?;
-    Ok(match certificate.basic_constraints() {
-        Some(constraints) => (text == "CA:TRUE") == constraints.ca(),
-        None => text == "none",
-    })
-}
+struct Constraints;
 
-/// The first common name of a name.
-fn common_name(alloc: Global, bytes: &[u8], text: &str) -> Answer {
-    let name: Name = from_bytes(alloc, bytes)?;
-    match name.find_common_name() {
-        Some(common_name) => is_printed(alloc, common_name, text),
-        None => Ok(false),
+impl Tells<Certificate> for Constraints {
+    fn is_text(_alloc: Global, certificate: &Certificate, text: &str) -> Answer {
+        Ok(match certificate.basic_constraints() {
+            Some(constraints) => (text == "CA:TRUE") == constraints.ca(),
+            None => text == "none",
+        })
     }
 }
 

@@ -7,6 +7,18 @@ use x509_spelling::{Spelled, X509Fault};
 /// Whether a recorded spelling is read, counted and rewritten as expected, memory aside.
 pub type Answer = Result<bool, X509Fault>;
 
+/// Whether a spelling is read, counted and rewritten as expected, if the line names this type; none for any other type.
+pub fn spelled_as<T: Spelled>(
+    alloc: Global,
+    recorded: &Recorded<'_>,
+    type_name: &str,
+) -> Option<Answer> {
+    if recorded.type_name != type_name {
+        return None;
+    }
+    Some(is_told::<T>(alloc, recorded))
+}
+
 /// Whether a recorded spelling of this type is read, counted and rewritten as expected.
 pub fn is_told<T: Spelled>(alloc: Global, recorded: &Recorded<'_>) -> Answer {
     let bytes = recorded.bytes.as_slice();
