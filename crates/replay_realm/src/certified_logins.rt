@@ -1,7 +1,7 @@
 //! Logins of a client and a realm with keys of RSA and certificates, at a service. `data/rsa_logins.py` writes the rows.
 
 use crate::certified_parties::{BothRsaKeys, HOST, Party, keys_of, party_of, with_realm};
-use crate::login::input_of;
+use crate::login::{input_of, moments_of};
 use crate::stage::{Conditions, Random};
 use anyhow::Context;
 use krb_realm::{
@@ -80,7 +80,6 @@ fn tell_by_client(
 fn conditions() -> anyhow::Result<Conditions> {
     Ok(Conditions {
         moment: Moment::from_text(b"20270601000000Z").context("no moment")?,
-        moments: None,
         till: GeneralizedTime::from_text(b"20270601100000Z").context("no time")?,
         random: Random { first: 1, step: 1 },
     })
@@ -103,7 +102,13 @@ pub(crate) fn tell_ended(
     }
     .bytes();
     let name = components_of_text(alloc, HOST)?;
-    let input = input_of(at, &name, &random, &realm_random);
+    let input = input_of(
+        at.till,
+        moments_of(at.moment),
+        &name,
+        &random,
+        &realm_random,
+    );
     let (mine, theirs) = (keys.client, keys.realm);
     let honest = is_honest_by_certificate(alloc, client, realm, service, &input, mine, theirs)?;
     let login = login_by_certificate(alloc, client, realm, service, &input, mine, theirs);

@@ -4,15 +4,16 @@ ghost use Rattle.krb_logins.specs.Honest.{AreEnough};
 ghost use Rattle.krb_logins.specs.Input.{login_of};
 
 use crate::certificates::BothKeys;
-use crate::stage::{Conditions, Stage};
+use crate::stage::Stage;
 use crate::told::{login_text, refused};
 use anyhow::Context;
 use gss_acceptor::{AcceptorTerms, ContextFlags, InitialChecksum};
 use gss_initiator::NO_BINDINGS;
 use gss_logins::is_honest;
 use krb_realm::{
-    Admission, Client, EncryptionKey, LoginInput, LoginMoments, LoginRefusal, Realm, Service,
-    is_honest_by_certificate, is_honest_by_password, login_by_certificate, login_by_password,
+    Admission, Client, EncryptionKey, GeneralizedTime, LoginInput, LoginMoments, LoginRefusal,
+    Moment, Realm, Service, is_honest_by_certificate, is_honest_by_password, login_by_certificate,
+    login_by_password,
 };
 use picky_asn1_der::both;
 use std::alloc::{AllocError, Global};
@@ -28,7 +29,13 @@ pub(crate) fn login(
 ) -> anyhow::Result<()> {
     let name = words.name(alloc);
     let random = stage.conditions.random.bytes();
-    let input = input_of(stage.conditions, &name, &random, &random);
+    let input = input_of(
+        stage.conditions.till,
+        stage.moments(),
+        &name,
+        &random,
+        &random,
+    );
     let client = stage.client.as_ref().context("no client")?;
     let realm = stage.realm.as_ref().context("no realm")?;
     let service = stage.service.as_mut().context("no service")?;
@@ -53,7 +60,13 @@ pub(crate) fn honest(
 ) -> anyhow::Result<()> {
     let name = words.name(alloc);
     let random = stage.conditions.random.bytes();
-    let input = input_of(stage.conditions, &name, &random, &random);
+    let input = input_of(
+        stage.conditions.till,
+        stage.moments(),
+        &name,
+        &random,
+        &random,
+    );
     let client = stage.client()?;
     let realm = stage.realm()?;
     let service = stage.service.as_ref().context("no service")?;
@@ -81,7 +94,13 @@ pub(crate) fn honest_context(
         flags: ContextFlags(words.number::<u32>()),
     };
     let random = stage.conditions.random.bytes();
-    let input = input_of(stage.conditions, &name, &random, &random);
+    let input = input_of(
+        stage.conditions.till,
+        stage.moments(),
+        &name,
+        &random,
+        &random,
+    );
     let (client, realm) = both(stage.client(), stage.realm())?;
     let service = stage.service.as_ref().context("no service")?;
     let is_honest = is_context_honest(alloc, client, realm, service, &input, initial, &random);
@@ -115,10 +134,10 @@ fn is_context_honest(
     is_honest(alloc, client, &call, service, terms, input, initial, random)
 }
 
-/// All steps have one moment, unless the conditions give each its own. Those of the client have the same random bytes, and so have the
-/// others.
+/// The client's steps have the same random bytes, and so have the others.
 pub(crate) fn input_of<'a>(
-    at: Conditions,
+    till: GeneralizedTime,
+    moments: LoginMoments,
     service: &'a [Vec<u8>],
     random: &'a [u8; 128],
     realm_random: &'a [u8; 128],
@@ -128,8 +147,8 @@ pub(crate) fn input_of<'a>(
 {
     LoginInput {
         service,
-        till: at.till,
-        moments: moments_of(at),
+        till,
+        moments,
         words_as: random,
         words_tgs: random,
         words_ap: random,
@@ -149,14 +168,14 @@ fn tell_login(login: Result<(EncryptionKey, Admission), LoginRefusal>, told: &mu
     }
 }
 
-fn moments_of(at: Conditions) -> LoginMoments {
-    let moment = at.moment;
-    at.moments.unwrap_or(LoginMoments {
+/// All steps have this moment.
+pub(crate) fn moments_of(moment: Moment) -> LoginMoments {
+    LoginMoments {
         client_as: moment,
         realm_as: moment,
         client_tgs: moment,
         realm_tgs: moment,
         client_ap: moment,
         service_ap: moment,
-    })
+    }
 }

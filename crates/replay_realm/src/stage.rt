@@ -17,8 +17,6 @@ use test_support::{Row, Told};
 #[derive(Clone, Copy)]
 pub(crate) struct Conditions {
     pub(crate) moment: Moment,
-    /// The moments of a whole login, if its steps have moments of their own.
-    pub(crate) moments: Option<LoginMoments>,
     pub(crate) till: GeneralizedTime,
     pub(crate) random: Random,
 }
@@ -53,6 +51,8 @@ pub(crate) struct Asked {
 #[derive(Drop)]
 pub(crate) struct Stage {
     pub(crate) conditions: Conditions,
+    /// The moments of a whole login, if its steps have moments of their own.
+    pub(crate) moments: Option<LoginMoments>,
     pub(crate) realm: Option<Realm>,
     pub(crate) client: Option<Client>,
     pub(crate) service: Option<Service>,
@@ -69,11 +69,16 @@ impl Stage {
     pub(crate) fn new(alloc: Global) -> anyhow::Result<Stage> {
         let conditions = Conditions {
             moment: start()?,
-            moments: None,
             till: second_of("20000102000000Z")?,
             random: Random { first: 0, step: 0 },
         };
         Ok(empty_stage(alloc, conditions))
+    }
+
+    /// The moments of a login's steps: the stage's one moment, unless each step has its own.
+    pub(crate) fn moments(&self) -> LoginMoments {
+        let at = login::moments_of(self.conditions.moment);
+        self.moments.unwrap_or(at)
     }
 
     pub(crate) fn client(&self) -> anyhow::Result<&Client> {
@@ -100,6 +105,7 @@ impl Stage {
 fn empty_stage(alloc: Global, conditions: Conditions) -> Stage {
     Stage {
         conditions,
+        moments: None,
         realm: None,
         client: None,
         service: None,
@@ -212,13 +218,13 @@ fn set_moment(stage: &mut Stage, words: &mut Row<'_>) -> anyhow::Result<()> {
         bail!("more than a second");
     }
     stage.conditions.moment = Moment::at(second, micros);
-    stage.conditions.moments = None;
+    stage.moments = None;
     Ok(())
 }
 
 /// The moments of whole logins, up to the next `moment`: each in microseconds after the first second of 2000.
 fn set_moments(stage: &mut Stage, words: &mut Row<'_>) -> anyhow::Result<()> {
-    stage.conditions.moments = Some(LoginMoments {
+    stage.moments = Some(LoginMoments {
         client_as: moment_of(words.word())?,
         realm_as: moment_of(words.word())?,
         client_tgs: moment_of(words.word())?,

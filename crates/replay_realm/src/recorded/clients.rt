@@ -83,7 +83,6 @@ fn asking_of(row: &mut Row<'_>) -> anyhow::Result<Conditions> {
     Ok(Conditions {
         till: second_of(row.word())?,
         moment: moment_of(row.word())?,
-        moments: None,
         random: Random {
             first: row.number::<u8>(),
             step: row.number::<u8>(),
@@ -272,7 +271,6 @@ fn first_asking() -> anyhow::Result<Conditions> {
     Ok(Conditions {
         till: second_of("20000102000000Z")?,
         moment: moment_of("7")?,
-        moments: None,
         random: Random { first: 0, step: 1 },
     })
 }
