@@ -85,8 +85,7 @@ fn answer_of(alloc: Global, recorded: &Recorded<'_>) -> Option<Answer> {
     ])
 }
 
-/// The first answer that is given. Each type of messages is one call in an array of answers, which has no branch: a function for each
-/// type, or a match over their names, costs more to prove.
+/// The first answer that is given. Each type of messages is one call in an array of answers.
 fn first_of<A: Copy>(answers: &[Option<A>]) -> Option<A> {
     for answer in answers {
         if answer.is_some() {
