@@ -40,7 +40,7 @@ filled_slice old new start count before read within size few took end =
       end = λ short. end (omega (arith, short, sizes));
     }
 
--- a vector held some octets, and had room after them, which was lent to a read
+-- a vector holds octets and has room after them; a read writes into that room
 pub filled_vector : (size start : ℕ) (old new : Option (List ℕ)) (held room lent filled after : List ℕ) → length held ≤ size → start ≡ length held
     → room ≡ take size held ++ replicate (size - length held) 0 → lent ≡ room → after ≡ filled → IsFilled (length lent) old new (take start lent) filled
     → IsFilled size old new held after

@@ -14,8 +14,8 @@ use Rattle.pkinit_validation.specs.Expected.{ExpectedRecord}
 use Rattle.pkinit_validation.specs.Trust.{TrustRecord}
 use Rattle.krb_realm.specs.Signatures.{AreSignaturesMade, CertifiedRequest, IsByCertificate}
 
--- each client asks by keys of its own: no one else signs by a certificate of these public keys, no two accounts share a key, and who asks by
--- a key has that of its account
+-- each client has keys of its own: nobody else signs under these public keys, no two accounts share a key, and a request by a key is by that of
+-- its client's account
 pub record AreKeysOwn (keys : KeysRecord) (holders : List SubjectPublicKeyInfo) (certified : List CertifiedRequest) (exchange : ExchangeRecord) (sent : SentRecord) : Type 0 where
   pub signatures : AreSignaturesMade keys holders certified exchange
   pub apart : AreKeysApart exchange.call.look
