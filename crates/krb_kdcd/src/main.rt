@@ -15,8 +15,8 @@
 //! stops with status 1. `serve_realm` promises what is served, for every type of file, stream and clock. Where the octets are known, the
 //! output is the frames of the replies of the file's realm (`RepliesFrom`). A message that is no request gets an empty frame (`Tolerates`),
 //! and serving goes on. `serve_realm_at` promises the same at its moment. Both pass over no failed call of a device (`AnswersFailures`).
-//! `open_random` opens the path that the arguments name as WORDS, and `database_of` takes the one that they name as DATABASE. No contract
-//! says what a file of the system or standard output holds.
+//! The path that `open_random` notes is the one that the arguments name as WORDS, and that of `database_of` the one that they name as
+//! DATABASE. No contract says that octets come from there, or what a file of the system or standard output holds.
 #![tactic(auto)]
 
 mod arguments;

@@ -19,10 +19,10 @@
 //! right keys and public values that are made. That a party signs, that its signature verifies, and that both come to one secret, is no
 //! premise there.
 //!
-//! Where no one signs but the holders of their keys, a client that the realm accepted by certificate asked by it (law
-//! `certified_client_asked`). Where moreover no two accounts share a key, the client of each AS exchange itself asked, by its certificate
-//! or by the key of its account (law `first_client_asked`). The premise on signatures holds of requests that come to the realm as clients
-//! sent them (law `certified_is_signed`).
+//! Where no one signs but the holders of their keys, a client that the realm accepted by certificate asked by it, if the certificate's key
+//! is one of the run's (law `certified_client_asked`). Where moreover no two accounts share a key, the client of each AS exchange itself
+//! asked: by its certificate or by the key of its account, if that key is one of the run's (law `first_client_asked`). The premise on
+//! signatures holds of requests that come to the realm as clients sent them (law `certified_is_signed`).
 #![tactic(auto)]
 
 mod certified_honesty;
