@@ -88,5 +88,5 @@ end_terms terms skew words admission flags number = record {
 abbrev pub context_in : KeyRecord → ContextTerms → Result ContextRecord AcceptRefusal
 context_in key terms =
     if is_newer key.suite then Ok (context_of key Acceptor terms)
-    -- The key is of a suite of AES: triple DES has the tokens of RFC 1964 (RFC 4121, section 2). Test: `Refused after the admission.`.
+    -- The key is of a suite of AES: triple DES has the tokens of RFC 1964 (RFC 4121, section 1). Test: `Refused after the admission.`.
     else Err OldSuite

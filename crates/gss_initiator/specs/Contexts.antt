@@ -34,7 +34,7 @@ context_in it in_sequence numbers =
       ends = None;
       numbers = numbers;
     }))
-    -- The key is of a suite of AES: triple DES has the tokens of RFC 1964. Test: `take OldSuite`.
+    -- The key is of a suite of AES: triple DES has the tokens of RFC 1964 (RFC 4121, section 1). Test: `take OldSuite`.
     else Err OldSuite
 
 -- Without an AP-REP the end is under the initiator's subkey, and the acceptor's numbers begin where the initiator's do. Test: `With an

@@ -40,7 +40,7 @@ due_by octets =
 
 -- whether a further token of the initiator is due, by the field negState
 abbrev pub due_in : Option (ExplicitContextTag 0 Raw) → Result Bool InitiateRefusal
--- The acceptor's first answer has a state (RFC 4178, section 4.2.2). Test: `take NotAToken`.
+-- The acceptor's first answer has a negState (RFC 4178, section 4.2.2). Test: `take NotAToken`.
 due_in None = Err NotAToken
 due_in (Some state) = due_by (element state.0.first state.0.content)
 

@@ -66,7 +66,7 @@ IsNoOwnIn bytes NoCertificate = ⊥
 IsNoOwnIn bytes OtherKey = ⊥
 IsNoOwnIn bytes Anchor = ⊥
 
--- The private key is that of the KDC's certificate, which signs dhSignedData (RFC 4556, section 3.2.3.1). Test: `pkinit_other_key.cdb`.
+-- The private key that signs dhSignedData is that of the KDC's certificate (RFC 4556, section 3.2.3.1). Test: `pkinit_other_key.cdb`.
 pub record IsPair (certificate key : Bytes) (own : OwnKey) : Type 0 where
   pub holder : AnchorRecord
   pub is_holder : IsHolder certificate holder
