@@ -1,6 +1,7 @@
 -- Each reply of a realm grants a ticket by the rows of its tables, or is an error.
 use Rattle.std.proofs.Common.{◌≡◌, ◌%◌, ℕ, Bool, true, false, not, List, Option, None, Some, Result, Ok, Err, refl, sym, subst, inl, inr}
 use Rattle.asn1_leaves.specs.GeneralizedTime.{seconds_of}
+use Rattle.asn1_leaves.specs.declared.date.GeneralizedTime.{GeneralizedTime}
 use Rattle.picky_asn1.specs.Bytes.{Bytes}
 use Rattle.krb_crypto.specs.declared.suite.CipherSuite.{CipherSuite}
 use Rattle.krb_time.specs.Units.{Micros, Seconds}
@@ -25,13 +26,15 @@ use Rattle.krb_ap_requests.proofs.Chosen.{needed}
 use Rattle.krb_ap_requests.proofs.Shown.{both, ok_same}
 use Rattle.krb_kdc_exchanges.specs.Call.{skew_of}
 use Rattle.krb_kdc_exchanges.specs.Granting.{replied}
-use Rattle.krb_kdc_exchanges.specs.Requests.{account_of, body_of, client_of, header_rows, is_ended, IsSpan, lasting, service_of}
+use Rattle.krb_kdc_exchanges.specs.Requests.{account_of, body_of, client_of, has_refused_option, header_rows, is_ended, IsSpan, lasting, service_of}
+use Rattle.krb_kdc_exchanges.specs.Options.{asked_options}
+use Rattle.krb_kdc_exchanges.specs.declared.options.AskedOptions.{AskedOptions}
 use Rattle.krb_messages.specs.Padata.{padata_in}
 use Rattle.krb_kdc_exchanges.specs.declared.span.Span.{Span}
 use Rattle.krb_kdc_exchanges.specs.AsTable.{as_table, authenticated, is_later, is_listed, possible}
 use Rattle.krb_kdc_exchanges.specs.Grants.{Principals, granted, initial_grant}
 use Rattle.krb_kdc_exchanges.specs.ByTicket.{IsByTicket}
-use Rattle.krb_kdc_exchanges.specs.TgsTable.{authenticated_near, carried, client_and_times, covered, first_granted, further, further_grant, has_account, of_authenticated, of_carried, of_ticket, reply_key, subkey_in, tgs_granted, tgs_table, ticket_granting, to_us, without_des3}
+use Rattle.krb_kdc_exchanges.specs.TgsTable.{authenticated_near, by_options, carried, client_and_times, covered, first_granted, further, further_grant, further_in, further_lasting, further_replied, further_till, has_account, of_authenticated, of_carried, of_ticket, reply_key, subkey_in, tgs_granted, tgs_table, ticket_granting, to_us, without_des3}
 use Rattle.krb_kdc_exchanges.proofs.ByTicket.{by_padata, by_ticket}
 use Rattle.krb_kdc_exchanges.proofs.Written.{header_realm}
 use Rattle.krb_kdc_exchanges.specs.Errors.{error_of}
@@ -101,7 +104,8 @@ module _ (rows : PkinitRows) (exchange : ExchangeRecord) (request : KdcReq) (rea
 
   by_as_table : (as_table exchange.call rows of_client of_service request).gives (Ok exchange.reply) → (grant : GrantRecord) × (service : AccountRecord) × IsGranted rows exchange grant service
   by_as_table x =
-      let a = both {A = Unit {0}} {T = Bytes} (header_rows 10 exchange.call.realm request) (λ _. to_name) exchange.reply x in
+      let refused = has_refused_option request.req_body.0.kdc_options.0 in
+      let a = both {A = Unit {0}} {T = Bytes} (header_rows 10 exchange.call.realm refused request) (λ _. to_name) exchange.reply x in
       let b = needed {A = PrincipalName} {T = Bytes} (client_of request.req_body.0) 6 by_client_name exchange.reply a.2 in
       let c = needed {A = AccountRecord} {T = Bytes} of_client 6 (by_client b.0) exchange.reply b.2 in
       let d = needed {A = PrincipalName} {T = Bytes} (service_of request.req_body.0) 7 (by_service_name b.0 c.0) exchange.reply c.2 in
@@ -109,11 +113,12 @@ module _ (rows : PkinitRows) (exchange : ExchangeRecord) (request : KdcReq) (rea
       let asked : Principals = asked_by b.0 c.0 d.0 e.0 in
       let f = both {A = Span} {T = Bytes} (possible exchange.call c.0.suite request.req_body.0) (to_grant asked) exchange.reply e.2 in
       let g = both {A = ReplyKeyRecord} {T = Bytes} (authenticated exchange.call rows c.0 (components b.0) request) (λ under. granted exchange.call asked under f.0 request.req_body.0) exchange.reply f.2 in
-      let grant : GrantRecord = initial_grant exchange.call asked request.req_body.0 f.0 in
+      let till : Option GeneralizedTime = g.2.0 in
+      let grant : GrantRecord = initial_grant exchange.call asked request.req_body.0 f.0 till in
       let first : IsFirst rows exchange grant g.0 e.0 = record {
         asked = request;
         read = read;
-        of_realm = header_realm 10 exchange.call.realm request a.1;
+        of_realm = header_realm 10 exchange.call.realm refused request a.1;
         principals = asked;
         client_named = b.1;
         client_found = account_named exchange.call.look (client_of request.req_body.0) b.0 c.0 b.1 c.1;
@@ -122,10 +127,12 @@ module _ (rows : PkinitRows) (exchange : ExchangeRecord) (request : KdcReq) (rea
         span = f.0;
         lasts = possible_span c.0.suite f.0 f.1;
         authenticates = g.1;
+        till = till;
+        renews = g.2.1;
         grants = refl;
         sealed_for = refl;
       } in
-      (grant, e.0, record { under = g.0; by = inl first; replied = replied_bytes grant g.0 e.0 exchange.call.words exchange.reply g.2 })
+      (grant, e.0, record { under = g.0; by = inl first; replied = replied_bytes grant g.0 e.0 exchange.call.words exchange.reply g.2.2 })
 
 -- ---- the TGS table
 
@@ -153,8 +160,13 @@ module _ (exchange : ExchangeRecord) where
     abbrev key : Option ReplyKeyRecord
     key = reply_key shown.suite part.key.0.key_value.0 (subkey_in shown.authenticator)
 
+    -- what the request's options ask for
+    abbrev asked_for : AskedOptions
+    asked_for = asked_options exchange.call.settings.policy request.req_body.0.kdc_options.0
+
     abbrev to_seal : PrincipalName → AccountRecord → Span → CipherSuite → ReplyKeyRecord → Table (Result Bytes ℕ)
-    to_seal name service span suite under = replied (further_grant exchange.call part name suite request.req_body.0 span) under service exchange.call.words
+    to_seal name service span suite under =
+        further_replied exchange.call part name service suite under (further_till asked_for.renews exchange.call.settings.policy.renewable_life part span request.req_body.0) request.req_body.0 span
 
     abbrev to_key : PrincipalName → AccountRecord → Span → CipherSuite → Table (Result Bytes ℕ)
     to_key name service span suite = need key 31 (to_seal name service span suite)
@@ -172,15 +184,16 @@ module _ (exchange : ExchangeRecord) where
         → (of_authenticated exchange.call request.req_body.0 part shown).gives (Ok exchange.reply) → (grant : GrantRecord) × (service : AccountRecord) × IsGranted rows exchange grant service
     further_granted ticket of_realm authenticates x =
         let lifetime = exchange.call.settings.lifetime in
-        let old = Some (seconds_of part.endtime.0.0) in
         let a = both {A = Unit {0}} {T = Bytes} (covered shown.suite part.key.0.key_value.0 shown.authenticator request.req_body.0) (λ _. tgs_granted exchange.call part shown request.req_body.0) exchange.reply x in
         let b = passes {T = Bytes} (not (has_account exchange.call part.cname.0)) 6 (need (service_of request.req_body.0) 7 to_named) exchange.reply a.2 in
         let c = needed {A = PrincipalName} {T = Bytes} (service_of request.req_body.0) 7 to_named exchange.reply b.1 in
         let d = needed {A = AccountRecord} {T = Bytes} (exchange.call.look (components c.0)) 7 (to_service c.0) exchange.reply c.2 in
-        let e = both {A = Span} {T = Bytes} (lasting lifetime exchange.call.moment old request.req_body.0) (to_suite c.0 d.0) exchange.reply d.2 in
+        let o = both {A = Unit {0}} {T = Bytes} (by_options exchange.call asked_for part c.0) (λ _. further_in asked_for.renews exchange.call part shown c.0 d.0 request.req_body.0) exchange.reply d.2 in
+        let e = both {A = Span} {T = Bytes} (further_lasting asked_for.renews lifetime exchange.call.moment part request.req_body.0) (to_suite c.0 d.0) exchange.reply o.2 in
         let f = needed {A = CipherSuite} {T = Bytes} (first_granted (without_des3 exchange.call part d.0) request.req_body.0.etype.0) 14 (to_key c.0 d.0 e.0) exchange.reply e.2 in
         let g = needed {A = ReplyKeyRecord} {T = Bytes} key 31 (to_seal c.0 d.0 e.0 f.0) exchange.reply f.2 in
-        let grant : GrantRecord = further_grant exchange.call part c.0 f.0 request.req_body.0 e.0 in
+        let till : Option GeneralizedTime = g.2.0 in
+        let grant : GrantRecord = further_grant exchange.call part c.0 f.0 request.req_body.0 e.0 till in
         let is : IsFurther exchange grant g.0 d.0 = record {
           asked = request;
           read = read;
@@ -194,20 +207,25 @@ module _ (exchange : ExchangeRecord) where
           service_name = c.0;
           service_named = c.1;
           service_found = d.1;
+          options = asked_for;
+          allows = refl;
+          allowed = o.1;
           suite = f.0;
           span = e.0;
-          lasts = lasting_span lifetime exchange.call.moment old request.req_body.0 e.0 e.1;
+          lasts = e.1;
+          till = till;
+          renews = g.2.1;
           grants = refl;
           replies = g.1;
         } in
-        (grant, d.0, record { under = g.0; by = inr is; replied = replied_bytes grant g.0 d.0 exchange.call.words exchange.reply g.2 })
+        (grant, d.0, record { under = g.0; by = inr is; replied = replied_bytes grant g.0 d.0 exchange.call.words exchange.reply g.2.2 })
 
 by_tgs_table : (rows : PkinitRows) (exchange : ExchangeRecord) (request : KdcReq) → IsTgsReq exchange.request request → (tgs_table exchange.call request).gives (Ok exchange.reply)
     → (grant : GrantRecord) × (service : AccountRecord) × IsGranted rows exchange grant service
 by_tgs_table rows exchange request read x =
     let call = exchange.call in
     let body = request.req_body.0 in
-    let a = both {A = Unit {0}} {T = Bytes} (to_us call.realm request) (λ _. and_then (carried (padata_in request)) (of_carried call body)) exchange.reply x in
+    let a = both {A = Unit {0}} {T = Bytes} (to_us call.settings.policy call.realm request) (λ _. and_then (carried (padata_in request)) (of_carried call body)) exchange.reply x in
     let b = both {A = ApReqInner} {T = Bytes} (carried (padata_in request)) (of_carried call body) exchange.reply a.2 in
     let value = by_padata (padata_in request) b.0 b.1 in
     let c = needed {A = AccountRecord} {T = Bytes} (call.look (krbtgt_of call.realm)) 7 (λ granting. and_then (ticket_granting call granting b.0) (of_ticket call body b.0)) exchange.reply b.2 in

@@ -1,6 +1,8 @@
 -- The table of AS requests has an outcome: each part of it has one.
 use Rattle.std.proofs.Common.{◌≡◌, ◌<◌, ℕ, ◌^◌, Bool, true, false, not, List, length, Option, None, Some, Result, Ok, Err, refl, sym, subst, inl, inr}
 use Rattle.picky_asn1.specs.Numbers.{is_number}
+use Rattle.asn1_leaves.specs.declared.date.GeneralizedTime.{GeneralizedTime}
+use Rattle.krb_tickets.specs.Grant.{GrantRecord}
 use Rattle.krb_time.specs.Skew.{is_far}
 use Rattle.krb_crypto.specs.declared.suite.CipherSuite.{CipherSuite}
 use Rattle.krb_realm_accounts.specs.Account.{AccountRecord}
@@ -27,11 +29,12 @@ use Rattle.krb_kdc_exchanges.specs.Rows.{PkinitRows}
 use Rattle.krb_kdc_exchanges.specs.AsTable.{as_table, authenticated, authenticated_by, is_later, is_listed, possible, timestamped}
 use Rattle.krb_kdc_exchanges.specs.Call.{CallRecord, pkinit_call, skew_of}
 use Rattle.krb_kdc_exchanges.specs.Calls.{IsCall, IsKeyed}
-use Rattle.krb_kdc_exchanges.specs.Grants.{Principals, granted, initial_grant}
-use Rattle.krb_kdc_exchanges.specs.Requests.{header_rows, client_of, lasting, service_of}
+use Rattle.krb_kdc_exchanges.specs.Grants.{Principals, granted, initial_grant, initial_till}
+use Rattle.krb_kdc_exchanges.specs.Requests.{has_refused_option, header_rows, client_of, lasting, service_of}
+use Rattle.krb_kdc_exchanges.specs.Renewals.{asked_till}
 use Rattle.krb_messages.specs.Padata.{padata_in}
 use Rattle.krb_kdc_exchanges.specs.declared.span.Span.{Span}
-use Rattle.krb_kdc_exchanges.proofs.HasGrant.{has_header, has_lasting, has_replied}
+use Rattle.krb_kdc_exchanges.proofs.HasGrant.{has_granted_till, has_header, has_lasting, has_tilled}
 use Rattle.krb_kdc_exchanges.proofs.RequestTrees.{body_fits, client_fits, nonce_fits, service_fits}
 use Rattle.krb_kdc_exchanges.proofs.Short.{Fits}
 use Rattle.krb_kdc_exchanges.proofs.Written.{IsWritten, is_written, own_realm_fits, session_short}
@@ -125,22 +128,31 @@ module _ (call : CallRecord) (rows : PkinitRows) (of_client of_service : Option 
     pub service_name : service_of request.req_body.0 ≡ Some principals.service_name
     pub service : IsKeyed principals.service
 
+  -- the request's options are refused or not
+  abbrev refused : Bool
+  refused = has_refused_option request.req_body.0.kdc_options.0
+
+  -- what is granted with a renew-till or without
+  abbrev with_till : Principals → Span → Option GeneralizedTime → GrantRecord
+  with_till principals span till = initial_grant call principals request.req_body.0 span till
+
   module _ (is : IsCall call) (n : ℕ) (few : n < 2 ^ 64) (fits : Fits n (kdc_req_inner_tree request)) where
     -- what it is granted can be written
-    first_written : (principals : Principals) (span : Span) → (header_rows 10 call.realm request).gives (Ok tt) → AreAsked principals → IsWritten As (initial_grant call principals request.req_body.0 span)
-    first_written principals span to_us these =
+    first_written : (principals : Principals) (span : Span) (till : Option GeneralizedTime) → (header_rows 10 call.realm refused request).gives (Ok tt) → AreAsked principals
+        → IsWritten As (with_till principals span till)
+    first_written principals span till to_us these =
         let body = body_fits n request fits in
-        is_written n (initial_grant call principals request.req_body.0 span)
+        is_written n (with_till principals span till)
         (record {
           few = few;
           session = session_short principals.client.suite call.words is.enough is.bytes;
-          realm = own_realm_fits n 10 call.realm request to_us fits;
+          realm = own_realm_fits n 10 call.realm refused request to_us fits;
           client = client_fits n request.req_body.0 body principals.client_name these.client_name;
           service = service_fits n request.req_body.0 body principals.service_name these.service_name;
           nonce = nonce_fits n request.req_body.0 body;
         }) As
 
-    has_grant : (principals : Principals) → (header_rows 10 call.realm request).gives (Ok tt) → AreAsked principals → HasOutcome (to_be_possible principals)
+    has_grant : (principals : Principals) → (header_rows 10 call.realm refused request).gives (Ok tt) → AreAsked principals → HasOutcome (to_be_possible principals)
     has_grant principals to_us these =
         has_then (possible call principals.client.suite request.req_body.0) (to_prove principals) (has_possible call principals.client.suite request.req_body.0 is)
         (λ span given.
@@ -148,13 +160,14 @@ module _ (call : CallRecord) (rows : PkinitRows) (of_client of_service : Option 
         (has_authenticated call rows principals.client (components principals.client_name) request)
         (λ under x.
         let is_under = under_by call rows principals.client (components principals.client_name) request these.client (first_of 16 (padata_in request)) under x in
-        has_replied (initial_grant call principals request.req_body.0 span) under principals.service call.words is_under.sized is_under.bytes these.service is.enough is.bytes
-        (subst (λ (e : Exchange). IsWritten e (initial_grant call principals request.req_body.0 span)) (sym is_under.exchange) (first_written principals span to_us these))))
+        has_tilled (initial_till call span request.req_body.0) (with_till principals span) under principals.service call.words
+        (has_granted_till call.settings.policy.renewable_life span None (asked_till request.req_body.0)) is_under.sized is_under.bytes these.service is.enough is.bytes
+        (λ till. subst (λ (e : Exchange). IsWritten e (with_till principals span till)) (sym is_under.exchange) (first_written principals span till to_us these))))
 
     pub has_as_outcome : ((client : AccountRecord) → of_client ≡ Some client → IsKeyed client) → ((service : AccountRecord) → of_service ≡ Some service → IsKeyed service)
         → HasOutcome (as_table call rows of_client of_service request)
     has_as_outcome client_keyed service_keyed =
-        has_then {A = Unit {0}} (header_rows 10 call.realm request) (λ _. to_name) (has_header 10 call.realm request)
+        has_then {A = Unit {0}} (header_rows 10 call.realm refused request) (λ _. to_name) (has_header 10 call.realm refused request)
         (λ _ x.
         has_needed (client_of request.req_body.0) 6 by_client_name
         (λ client_name a.

@@ -14,12 +14,12 @@ use Rattle.krb_kdc_exchanges.specs.Call.{CallRecord}
 use Rattle.krb_kdc_exchanges.specs.Grants.{Principals, granted}
 use Rattle.krb_kdc_exchanges.specs.Granting.{IsGranted, IsGrantedTicket}
 use Rattle.krb_kdc_exchanges.specs.declared.granted.Granted.{Granted}
-use Rattle.krb_kdc_exchanges.specs.Requests.{header_rows, client_of, service_of}
+use Rattle.krb_kdc_exchanges.specs.Requests.{has_refused_option, header_rows, client_of, service_of}
 use Rattle.krb_kdc_exchanges.specs.declared.span.Span.{Span}
 
 -- the request is for this realm, and names client and service, which have these accounts
 pub record AreKnown (realm : List ℕ) (of_client of_service : Option AccountRecord) (request : KdcReq) (these : Principals) : Type 0 where
-  pub header : (header_rows 10 realm request).gives (Ok tt)
+  pub header : (header_rows 10 realm (has_refused_option request.req_body.0.kdc_options.0) request).gives (Ok tt)
   pub client_name : client_of request.req_body.0 ≡ Some these.client_name
   pub client : of_client ≡ Some these.client
   pub service_name : service_of request.req_body.0 ≡ Some these.service_name

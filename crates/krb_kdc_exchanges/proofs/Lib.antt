@@ -16,6 +16,7 @@ mod SealedLengths
 pub mod ByTicket
 pub mod TgsHasOutcome
 pub mod TgsInvolved
+mod Before
 mod GrantedFurther
 mod TgsJudged
 mod GrantedSuites

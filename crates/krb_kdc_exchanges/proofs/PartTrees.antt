@@ -1,8 +1,8 @@
 -- The encodings of what a ticket's part and a reply's part hold are bytes, where names, realm and nonce are short.
-use Rattle.std.proofs.Common.{◌<◌, ℕ, ◌+◌, ◌^◌, List, [], ◌∷◌, arith}
+use Rattle.std.proofs.Common.{◌<◌, ℕ, ◌+◌, ◌^◌, List, [], ◌∷◌, Option, None, Some, arith}
 use Rattle.std.specs.Prelude.{ℤ, pos}
 use Rattle.asn1_der.specs.Tagged.{tagged_tree}
-use Rattle.asn1_der.specs.Tree.{Tree, Trees, constructed, leaf, more, none, primitive, wrapped}
+use Rattle.asn1_der.specs.Tree.{Tree, Trees, constructed, leaf, more, none, primitive, put, wrapped}
 use Rattle.asn1_leaves.specs.CharSets.{is_general_string}
 use Rattle.asn1_leaves.specs.declared.date.GeneralizedTime.{GeneralizedTime}
 use Rattle.asn1_leaves.specs.GeneralizedTime.{time_text}
@@ -14,8 +14,9 @@ use Rattle.krb_messages.specs.declared.data_types.encryption_key.EncryptionKey.{
 use Rattle.krb_messages.specs.declared.data_types.principal_name.PrincipalName.{PrincipalName}
 use Rattle.krb_messages.specs.contracts.data_types.encryption_key.EncryptionKeyTagged.TheImpl as encryption_key_impl
 use Rattle.krb_messages.specs.contracts.data_types.principal_name.PrincipalNameTagged.TheImpl as principal_name_impl
+use Rattle.krb_tickets.specs.Parts.{tagged_till}
 use Rattle.krb_tickets.specs.Sealing.{encryption_key}
-use Rattle.krb_kdc_exchanges.proofs.Short.{AllFit, Fits, IsShort, fits_constructed, fits_primitive, fits_wrapped, looser, more_trees, no_trees, number_short, one_tree, short_cons, short_none, time_short}
+use Rattle.krb_kdc_exchanges.proofs.Short.{AllFit, Fits, IsShort, fits_constructed, fits_primitive, fits_wrapped, looser, looser_all, more_trees, no_trees, number_short, one_tree, short_cons, short_none, time_short}
 
 abbrev pub principal_name_tree : PrincipalName → Tree
 principal_name_tree = tagged_tree 48 principal_name_impl.ghosts.row_tree principal_name_impl.ghosts.row_of
@@ -53,13 +54,13 @@ key_fits first suite session fits key =
     let value = fits_wrapped 43 161 (primitive 4 session) (omega arith) (omega arith) (fits_primitive 32 4 session (omega arith) (omega arith) key) in
     sequence_fits 80 first _ fits (omega arith) (more_trees 26 54 _ _ kind (more_trees 54 0 _ _ value no_trees))
 
--- flags: 32 bits, of which two may be set
-flags_fit : (first octet : ℕ) → first < 256 → octet < 256 → Fits 27 (constructed first (more (primitive 3 (0 ∷ 0 ∷ octet ∷ 0 ∷ 0 ∷ [])) none))
-flags_fit first octet fits few =
-    fits_wrapped 16 first (primitive 3 (0 ∷ 0 ∷ octet ∷ 0 ∷ 0 ∷ [])) fits (omega arith)
-    (fits_primitive 5 3 (0 ∷ 0 ∷ octet ∷ 0 ∷ 0 ∷ []) (omega arith) (omega arith)
-    (short_cons 4 0 (0 ∷ octet ∷ 0 ∷ 0 ∷ []) (omega arith)
-    (short_cons 3 0 (octet ∷ 0 ∷ 0 ∷ []) (omega arith)
+-- flags: 32 bits, of which those of two octets may be set
+flags_fit : (first front octet : ℕ) → first < 256 → front < 256 → octet < 256 → Fits 27 (constructed first (more (primitive 3 (0 ∷ front ∷ octet ∷ 0 ∷ 0 ∷ [])) none))
+flags_fit first front octet fits low few =
+    fits_wrapped 16 first (primitive 3 (0 ∷ front ∷ octet ∷ 0 ∷ 0 ∷ [])) fits (omega arith)
+    (fits_primitive 5 3 (0 ∷ front ∷ octet ∷ 0 ∷ 0 ∷ []) (omega arith) (omega arith)
+    (short_cons 4 0 (front ∷ octet ∷ 0 ∷ 0 ∷ []) (omega arith)
+    (short_cons 3 front (octet ∷ 0 ∷ 0 ∷ []) low
     (short_cons 2 octet (0 ∷ 0 ∷ []) few
     (short_cons 1 0 (0 ∷ []) (omega arith)
     (short_cons 0 0 [] (omega arith) short_none))))))
@@ -77,6 +78,11 @@ last_fits start =
     let told = more_trees 26 37 _ _ (small_number 160 0 (omega arith) (omega arith)) (more_trees 37 0 _ _ (time_fits 161 start (omega arith)) no_trees) in
     sequence_fits 74 161 _ (omega arith) (omega arith) (one_tree 74 _ (fits_constructed 63 48 _ (omega arith) (omega arith) told))
 
+-- renew-till, if there is one, before further fields
+till_fits : (m : ℕ) (rest : Trees) → AllFit m rest → (till : Option GeneralizedTime) → AllFit (37 + m) (put (λ tagged. wrapped 168 (time_tree tagged.0.0)) (tagged_till till) rest)
+till_fits m rest x None = looser_all m (37 + m) rest (omega arith) x
+till_fits m rest x (Some time) = more_trees 37 m (wrapped 168 (time_tree time)) rest (time_fits 168 time (omega arith)) x
+
 -- a session's key is short, and realm and name are
 pub record AreFit (n : ℕ) (session realm : List ℕ) (name : PrincipalName) : Type 0 where
   pub few : n < 2 ^ 64
@@ -84,34 +90,37 @@ pub record AreFit (n : ℕ) (session realm : List ℕ) (name : PrincipalName) : 
   pub realm_name : Fits n (realm_tree realm)
   pub name_tree : Fits n (principal_name_tree name)
 
-module _ (n : ℕ) (suite : CipherSuite) (session realm : List ℕ) (name : PrincipalName) (fit : AreFit n session realm name) (octet : ℕ) (flags : octet < 256) (auth starttime endtime : GeneralizedTime) where
+module _ (n : ℕ) (suite : CipherSuite) (session realm : List ℕ) (name : PrincipalName) (fit : AreFit n session realm name) (front octet : ℕ) (low : front < 256) (flags : octet < 256) (auth starttime endtime : GeneralizedTime)
+    (till : Option GeneralizedTime) where
   -- the part under the service's key
   abbrev pub ticket_tree : Tree
   ticket_tree =
       wrapped 99
       (constructed 48
-      (more (wrapped 160 (primitive 3 (0 ∷ 0 ∷ octet ∷ 0 ∷ 0 ∷ [])))
+      (more (wrapped 160 (primitive 3 (0 ∷ front ∷ octet ∷ 0 ∷ 0 ∷ [])))
       (more (wrapped 161 (encryption_key_tree (encryption_key suite session)))
       (more (wrapped 162 (realm_tree realm))
       (more (wrapped 163 (principal_name_tree name))
       (more (wrapped 164 (constructed 48 (more (wrapped 160 (integer_tree (pos 1))) (more (wrapped 161 (primitive 4 [])) none))))
       (more (wrapped 165 (time_tree auth))
       (more (wrapped 166 (time_tree starttime))
-      (more (wrapped 167 (time_tree endtime)) none)))))))))
+      (more (wrapped 167 (time_tree endtime))
+      (put (λ tagged. wrapped 168 (time_tree tagged.0.0)) (tagged_till till) none))))))))))
 
-  pub ticket_fits : Fits (n + n + 354) ticket_tree
+  pub ticket_fits : Fits (n + n + 391) ticket_tree
   ticket_fits =
       let few : n < 2 ^ 64 = fit.few in
-      looser (27 + (102 + ((n + 11) + ((n + 11) + (70 + (37 + (37 + 37)))))) + 22) (n + n + 354) _ (omega arith)
-      (sequence_fits (27 + (102 + ((n + 11) + ((n + 11) + (70 + (37 + (37 + 37))))))) 99 _ (omega arith) (omega arith)
-      (more_trees 27 _ _ _ (flags_fit 160 octet (omega arith) flags)
+      looser (27 + (102 + ((n + 11) + ((n + 11) + (70 + (37 + (37 + (37 + (37 + 0)))))))) + 22) (n + n + 391) _ (omega arith)
+      (sequence_fits (27 + (102 + ((n + 11) + ((n + 11) + (70 + (37 + (37 + (37 + (37 + 0))))))))) 99 _ (omega arith) (omega arith)
+      (more_trees 27 _ _ _ (flags_fit 160 front octet (omega arith) low flags)
       (more_trees 102 _ _ _ (key_fits 161 suite session (omega arith) fit.session_key)
       (more_trees (n + 11) _ _ _ (fits_wrapped n 162 (realm_tree realm) (omega arith) (omega arith) fit.realm_name)
       (more_trees (n + 11) _ _ _ (fits_wrapped n 163 (principal_name_tree name) (omega arith) (omega arith) fit.name_tree)
       (more_trees 70 _ _ _ no_realms_fit
       (more_trees 37 _ _ _ (time_fits 165 auth (omega arith))
-      (more_trees 37 37 _ _ (time_fits 166 starttime (omega arith))
-      (one_tree 37 _ (time_fits 167 endtime (omega arith)))))))))))
+      (more_trees 37 _ _ _ (time_fits 166 starttime (omega arith))
+      (more_trees 37 (37 + 0) _ _ (time_fits 167 endtime (omega arith))
+      (till_fits 0 none no_trees till))))))))))
 
   -- the part under the reply key
   module _ (first : ℕ) (fits : first < 256) (nonce : ℤ) (nonce_fits : Fits n (integer_tree nonce)) where
@@ -122,24 +131,26 @@ module _ (n : ℕ) (suite : CipherSuite) (session realm : List ℕ) (name : Prin
         (more (wrapped 160 (encryption_key_tree (encryption_key suite session)))
         (more (wrapped 161 (constructed 48 (more (constructed 48 (more (wrapped 160 (integer_tree (pos 0))) (more (wrapped 161 (time_tree starttime)) none))) none)))
         (more (wrapped 162 (integer_tree nonce))
-        (more (wrapped 164 (primitive 3 (0 ∷ 0 ∷ octet ∷ 0 ∷ 0 ∷ [])))
+        (more (wrapped 164 (primitive 3 (0 ∷ front ∷ octet ∷ 0 ∷ 0 ∷ [])))
         (more (wrapped 165 (time_tree auth))
         (more (wrapped 166 (time_tree starttime))
         (more (wrapped 167 (time_tree endtime))
+        (put (λ tagged. wrapped 168 (time_tree tagged.0.0)) (tagged_till till)
         (more (wrapped 169 (realm_tree realm))
-        (more (wrapped 170 (principal_name_tree name)) none))))))))))
+        (more (wrapped 170 (principal_name_tree name)) none)))))))))))
 
-    pub reply_fits : Fits (n + n + n + 391) reply_tree
+    pub reply_fits : Fits (n + n + n + 428) reply_tree
     reply_fits =
         let few : n < 2 ^ 64 = fit.few in
-        looser (102 + (96 + ((n + 11) + (27 + (37 + (37 + (37 + ((n + 11) + (n + 11)))))))) + 22) (n + n + n + 391) _ (omega arith)
-        (sequence_fits (102 + (96 + ((n + 11) + (27 + (37 + (37 + (37 + ((n + 11) + (n + 11))))))))) first _ fits (omega arith)
+        looser (102 + (96 + ((n + 11) + (27 + (37 + (37 + (37 + (37 + ((n + 11) + (n + 11))))))))) + 22) (n + n + n + 428) _ (omega arith)
+        (sequence_fits (102 + (96 + ((n + 11) + (27 + (37 + (37 + (37 + (37 + ((n + 11) + (n + 11)))))))))) first _ fits (omega arith)
         (more_trees 102 _ _ _ (key_fits 160 suite session (omega arith) fit.session_key)
         (more_trees 96 _ _ _ (last_fits starttime)
         (more_trees (n + 11) _ _ _ (fits_wrapped n 162 (integer_tree nonce) (omega arith) (omega arith) nonce_fits)
-        (more_trees 27 _ _ _ (flags_fit 164 octet (omega arith) flags)
+        (more_trees 27 _ _ _ (flags_fit 164 front octet (omega arith) low flags)
         (more_trees 37 _ _ _ (time_fits 165 auth (omega arith))
         (more_trees 37 _ _ _ (time_fits 166 starttime (omega arith))
         (more_trees 37 _ _ _ (time_fits 167 endtime (omega arith))
+        (till_fits ((n + 11) + (n + 11)) _
         (more_trees (n + 11) (n + 11) _ _ (fits_wrapped n 169 (realm_tree realm) (omega arith) (omega arith) fit.realm_name)
-        (one_tree (n + 11) _ (fits_wrapped n 170 (principal_name_tree name) (omega arith) (omega arith) fit.name_tree)))))))))))
+        (one_tree (n + 11) _ (fits_wrapped n 170 (principal_name_tree name) (omega arith) (omega arith) fit.name_tree))) till)))))))))

@@ -1,8 +1,14 @@
 -- The table of TGS requests has an outcome: each part of it has one.
-use Rattle.std.proofs.Common.{◌≡◌, ◌<◌, ℕ, ◌^◌, not, List, length, Option, None, Some, Result, Ok, Err, inl, inr, refl, sym, subst}
+use Rattle.std.proofs.Common.{◌≡◌, ◌<◌, ℕ, ◌^◌, Bool, true, false, not, ◌&&◌, List, length, Option, None, Some, Result, Ok, Err, inl, inr, refl, sym, subst}
+use Rattle.std.specs.Prelude.{◌||◌}
 use Rattle.std.specs.Option.{is_some, option_map}
 use Rattle.block_ciphers.specs.Bytes.{IsBytes}
 use Rattle.asn1_leaves.specs.GeneralizedTime.{seconds_of}
+use Rattle.asn1_leaves.specs.declared.date.GeneralizedTime.{GeneralizedTime}
+use Rattle.picky_asn1.specs.BitString.{bit_of}
+use Rattle.krb_constants.specs.declared.ticket_flags.TheConstants as flag
+use Rattle.krb_time.specs.Moment.{IsMoment}
+use Rattle.krb_realm_accounts.specs.declared.policy.Policy.{Policy}
 use Rattle.picky_asn1.specs.Numbers.{is_number}
 use Rattle.krb_time.specs.Skew.{is_far}
 use Rattle.krb_crypto.specs.declared.suite.CipherSuite.{CipherSuite}
@@ -25,17 +31,20 @@ use Rattle.decision_tables.specs.Tables.{Table, and_then, ask, done, need, refus
 use Rattle.decision_tables.proofs.Outcomes.{HasOutcome, has_asked, has_done, has_needed, has_refused, has_then}
 use Rattle.krb_messages.specs.Padata.{first_of}
 use Rattle.krb_tickets.specs.declared.reply.Exchange.TheVariants.{Tgs}
+use Rattle.krb_tickets.specs.Grant.{GrantRecord}
 use Rattle.krb_tickets.specs.ReplyKeys.{ReplyKeyRecord, tgs_reply_key, tgs_subkey_reply_key}
 use Rattle.krb_ap_requests.specs.declared.presented.Authenticated.{Authenticated}
 use Rattle.krb_kdc_exchanges.specs.Call.{CallRecord, skew_of}
 use Rattle.krb_kdc_exchanges.specs.Calls.{IsCall, IsKeyed}
-use Rattle.krb_kdc_exchanges.specs.Granting.{replied}
-use Rattle.krb_kdc_exchanges.specs.Requests.{header_rows, lasting, service_of}
+use Rattle.krb_kdc_exchanges.specs.Options.{asked_options, has_option_beyond}
+use Rattle.krb_kdc_exchanges.specs.Renewals.{IsTill, is_outlived, is_renewable, life_of, renew_till_of}
+use Rattle.krb_kdc_exchanges.specs.Requests.{header_rows, service_of}
+use Rattle.krb_kdc_exchanges.specs.Times.{no_end}
+use Rattle.krb_kdc_exchanges.specs.declared.options.AskedOptions.{AskedOptions}
 use Rattle.krb_messages.specs.Padata.{padata_in}
 use Rattle.krb_messages.specs.TicketGranting.{krbtgt_of}
 use Rattle.krb_kdc_exchanges.specs.declared.span.Span.{Span}
-use Rattle.krb_kdc_exchanges.proofs.HasGrant.{has_lasting, has_replied}
-use Rattle.krb_kdc_exchanges.proofs.HasGrant.{has_header}
+use Rattle.krb_kdc_exchanges.proofs.HasGrant.{has_granted_till, has_header, has_lasting, has_lasting_to, has_old_till, has_tilled}
 use Rattle.krb_kdc_exchanges.proofs.PartTrees.{realm_tree}
 use Rattle.krb_kdc_exchanges.proofs.RequestTrees.{body_fits, padata_short, nonce_fits, service_fits}
 use Rattle.krb_kdc_exchanges.proofs.Short.{Fits}
@@ -44,14 +53,19 @@ use Rattle.krb_ap_requests.specs.ApTable.{ap_fields, authenticated, is_early, is
 use Rattle.krb_tickets.proofs.KeySizes.{suite_sized}
 use Rattle.krb_ap_requests.proofs.Judgements.{has_authenticated, has_fields, has_opened_part, has_times}
 use Rattle.krb_kdc_exchanges.specs.ByTicket.{IsByTicket}
-use Rattle.krb_kdc_exchanges.specs.TgsTable.{carried, checksum_in, client_and_times, covered, first_granted, further, further_grant, has_account, is_known_checksum, is_of_body, of_carried, of_authenticated, of_ticket, reply_key, authenticated_near, subkey_in, tgs_granted, tgs_table, ticket_granting, to_us, without_des3}
+use Rattle.krb_kdc_exchanges.specs.TgsTable.{by_options, carried, checksum_in, client_and_times, covered, first_granted, further, further_asked, further_grant, further_in, further_lasting, further_replied, further_till, has_account, is_granting, is_known_checksum, is_of_body, of_carried, of_authenticated, of_ticket, reply_key, authenticated_near, subkey_in, tgs_granted, tgs_table, ticket_granting, to_us, without_des3}
 use Rattle.krb_kdc_exchanges.proofs.ByTicket.{IsOfKey, by_authenticator, by_padata, by_ticket}
 use Rattle.krb_kdc_exchanges.proofs.PresentedTrees.{authenticator_short, part_name_fits, request_fits, subkey_short, ticket_short}
 use Rattle.krb_kdc_exchanges.proofs.SealedLengths.{opened_fits}
 
-has_to_us : (realm : List ℕ) (request : KdcReq) → HasOutcome (to_us realm request)
-has_to_us realm request =
-    has_then {A = Unit {0}} (header_rows 12 realm request) (λ _. refuse (is_some request.req_body.0.enc_authorization_data.0) 12 (done (Ok tt))) (has_header 12 realm request)
+-- the request's options go beyond the policy or not
+abbrev beyond : Policy → KdcReq → Bool
+beyond policy request = has_option_beyond policy request.req_body.0.kdc_options.0
+
+has_to_us : (policy : Policy) (realm : List ℕ) (request : KdcReq) → HasOutcome (to_us policy realm request)
+has_to_us policy realm request =
+    has_then {A = Unit {0}} (header_rows 12 realm (beyond policy request) request) (λ _. refuse (is_some request.req_body.0.enc_authorization_data.0) 12 (done (Ok tt)))
+    (has_header 12 realm (beyond policy request) request)
     (λ _ x. has_refused {T = Unit {0}} (is_some request.req_body.0.enc_authorization_data.0) 12 (done (Ok tt)) (λ _. has_done (Ok tt)))
 
 has_carried : (padata : List PaData) → HasOutcome (carried padata)
@@ -95,6 +109,29 @@ has_covered suite key authenticator body =
     has_refused {T = Unit {0}} (not (is_number (checksum_number (cipher_checksum suite)) checksum.cksumtype.0)) 50 (last checksum)
     (λ _. has_refused {T = Unit {0}} (not (is_of_body (cipher_checksum suite) key body checksum)) 41 (done (Ok tt)) (λ _. has_done (Ok tt)))))
 
+has_by_options : (call : CallRecord) (asked : AskedOptions) (part : EncTicketPartInner) (service_name : PrincipalName) → HasOutcome (by_options call asked part service_name)
+has_by_options call asked part service_name =
+    rows (asked.forwards && not (bit_of part.flags.0 flag.FORWARDABLE)) (asked.proxies && not (bit_of part.flags.0 flag.PROXIABLE)) (asked.renews && not (is_renewable part))
+    (asked.renews && is_outlived call.moment part) ((asked.renews || asked.forwards) && not (is_granting call.realm (components service_name)))
+    (asked.proxies && is_granting call.realm (components service_name))
+  where
+    rows : (a b c d e f : Bool) → HasOutcome (refuse {T = Unit {0}} {E = ℕ} a 13 (refuse b 13 (refuse c 13 (refuse d 32 (refuse e 26 (refuse f 13 (done (Ok tt))))))))
+    rows true b c d e f = has_done (Err 13)
+    rows false true c d e f = has_done (Err 13)
+    rows false false true d e f = has_done (Err 13)
+    rows false false false true e f = has_done (Err 32)
+    rows false false false false true f = has_done (Err 26)
+    rows false false false false false true = has_done (Err 13)
+    rows false false false false false false = has_done (Ok tt)
+
+has_further_lasting : (renews : Bool) (lifetime moment : ℕ) (part : EncTicketPartInner) (body : KdcReqBody) → IsMoment moment → HasOutcome (further_lasting renews lifetime moment part body)
+has_further_lasting false lifetime moment part body in_time = has_lasting lifetime moment (Some (seconds_of part.endtime.0.0)) body in_time
+has_further_lasting true lifetime moment part body in_time = has_lasting_to (life_of part) moment (renew_till_of part) no_end in_time
+
+has_further_till : (renews : Bool) (life : ℕ) (part : EncTicketPartInner) (span : Span) (body : KdcReqBody) → (own : Option GeneralizedTime) × IsTill (further_till renews life part span body) own
+has_further_till false life part span body = has_granted_till life span (renew_till_of part) (further_asked part body)
+has_further_till true life part span body = has_old_till part
+
 -- the reply's key is one of its suite
 record IsUsable (under : ReplyKeyRecord) : Type 0 where
   sized : length under.key ≡ cipher_key_size under.suite
@@ -117,13 +154,13 @@ module _ (call : CallRecord) (request : KdcReq) (is : IsCall call) (n : ℕ) (fe
       (subkey_short n authenticated.authenticator subkey opened e).bytes
 
   -- what is granted can be written
-  further_written : (ap_req : ApReqInner) (part : EncTicketPartInner) (service : PrincipalName) (suite : CipherSuite) (span : Span) → IsByTicket call request ap_req part → service_of body ≡ Some service
-      → IsWritten Tgs (further_grant call part service suite body span)
-  further_written ap_req part service suite span by named =
+  further_written : (ap_req : ApReqInner) (part : EncTicketPartInner) (service : PrincipalName) (suite : CipherSuite) (span : Span) (till : Option GeneralizedTime) → IsByTicket call request ap_req part
+      → service_of body ≡ Some service → IsWritten Tgs (further_grant call part service suite body span till)
+  further_written ap_req part service suite span till by named =
       let opened = opened_fits {T = EncTicketPartInner} enc_ticket_part_tree by.granting.suite by.granting.key 2 ap_req.ticket.0.0.enc_part.0 part n by.opens
       (ticket_short n ap_req (carried_fits ap_req part by)) in
       let asked = body_fits n request fits in
-      is_written n (further_grant call part service suite body span)
+      is_written n (further_grant call part service suite body span till)
       (record {
         few = few;
         session = session_short suite call.words is.enough is.bytes;
@@ -149,20 +186,25 @@ module _ (call : CallRecord) (request : KdcReq) (is : IsCall call) (n : ℕ) (fe
   has_further : (ap_req : ApReqInner) (part : EncTicketPartInner) (authenticated : Authenticated) (service_name : PrincipalName) (service : AccountRecord)
       → IsByTicket call request ap_req part → IsOfKey ap_req part authenticated → service_of body ≡ Some service_name → IsKeyed service → HasOutcome (further call part authenticated service_name service body)
   has_further ap_req part authenticated service_name service by of_key named keyed =
-      let old : Option ℕ = Some (seconds_of part.endtime.0.0) in
-      let to_seal : Span → CipherSuite → ReplyKeyRecord → Table (Result (List ℕ) ℕ) = λ span suite under. replied (further_grant call part service_name suite body span) under service call.words in
+      let asked = asked_options call.settings.policy body.kdc_options.0 in
+      let lifetime : ℕ = call.settings.lifetime in
+      let life : ℕ = call.settings.policy.renewable_life in
+      let with_till : Span → CipherSuite → Option GeneralizedTime → GrantRecord = λ span suite till. further_grant call part service_name suite body span till in
+      let to_seal : Span → CipherSuite → ReplyKeyRecord → Table (Result (List ℕ) ℕ) =
+      λ span suite under. further_replied call part service_name service suite under (further_till asked.renews life part span body) body span in
       let to_key : Span → CipherSuite → Table (Result (List ℕ) ℕ) = λ span suite. need (reply_key authenticated.suite part.key.0.key_value.0 (subkey_in authenticated.authenticator)) 31 (to_seal span suite) in
       let to_suite : Span → Table (Result (List ℕ) ℕ) = λ span. need (first_granted (without_des3 call part service) body.etype.0) 14 (to_key span) in
-      has_then (lasting call.settings.lifetime call.moment old body) to_suite (has_lasting call.settings.lifetime call.moment old body is.in_time)
+      has_then {A = Unit {0}} (by_options call asked part service_name) (λ _. further_in asked.renews call part authenticated service_name service body) (has_by_options call asked part service_name)
+      (λ _ allowed.
+      has_then (further_lasting asked.renews lifetime call.moment part body) to_suite (has_further_lasting asked.renews lifetime call.moment part body is.in_time)
       (λ span given.
       has_needed (first_granted (without_des3 call part service) body.etype.0) 14 (to_key span)
       (λ suite e.
       has_needed (reply_key authenticated.suite part.key.0.key_value.0 (subkey_in authenticated.authenticator)) 31 (to_seal span suite)
       (λ under f.
       let ready = usable ap_req part authenticated by of_key (subkey_in authenticated.authenticator) refl under f in
-      let ready_to_write = further_written ap_req part service_name suite span by named in
-      has_replied (further_grant call part service_name suite body span) under service call.words ready.sized ready.bytes keyed is.enough is.bytes
-      (subst (λ exchange. IsWritten exchange (further_grant call part service_name suite body span)) (sym ready.exchange) ready_to_write))))
+      has_tilled (further_till asked.renews life part span body) (with_till span suite) under service call.words (has_further_till asked.renews life part span body) ready.sized ready.bytes keyed is.enough is.bytes
+      (λ till. subst (λ exchange. IsWritten exchange (with_till span suite till)) (sym ready.exchange) (further_written ap_req part service_name suite span till by named))))))
 
   has_granted : (ap_req : ApReqInner) (part : EncTicketPartInner) (authenticated : Authenticated) → IsByTicket call request ap_req part → IsOfKey ap_req part authenticated → HasOutcome (tgs_granted call part authenticated body)
   has_granted ap_req part authenticated by of_key =
@@ -194,15 +236,16 @@ module _ (call : CallRecord) (request : KdcReq) (is : IsCall call) (n : ℕ) (fe
       (λ part x. has_of_ticket ap_req part (record { value = value; first = first; read = read; granting = granting; account = e; opens = by_ticket call granting ap_req part x })))
 
 -- a request that is for the realm
-header_by : (realm : List ℕ) (request : KdcReq) → (to_us realm request).gives (Ok tt) → (header_rows 12 realm request).gives (Ok tt)
-header_by realm request (inl (_, x, y)) = x
-header_by realm request (inr (code, x, e)) = absurd (cc (e))
+header_by : (policy : Policy) (realm : List ℕ) (request : KdcReq) → (to_us policy realm request).gives (Ok tt) → (header_rows 12 realm (beyond policy request) request).gives (Ok tt)
+header_by policy realm request (inl (_, x, y)) = x
+header_by policy realm request (inr (code, x, e)) = absurd (cc (e))
 
 pub has_tgs_outcome : (call : CallRecord) (request : KdcReq) → IsCall call → (n : ℕ) → n < 2 ^ 64 → Fits n (kdc_req_inner_tree request) → HasOutcome (tgs_table call request)
 has_tgs_outcome call request is n few fits =
-    has_then {A = Unit {0}} (to_us call.realm request) (λ _. and_then (carried (padata_in request)) (of_carried call request.req_body.0)) (has_to_us call.realm request)
+    let policy = call.settings.policy in
+    has_then {A = Unit {0}} (to_us policy call.realm request) (λ _. and_then (carried (padata_in request)) (of_carried call request.req_body.0)) (has_to_us policy call.realm request)
     (λ _ x.
     has_then (carried (padata_in request)) (of_carried call request.req_body.0) (has_carried (padata_in request))
     (λ ap_req y.
     let found = by_padata (padata_in request) ap_req y in
-    has_of_carried call request is n few fits (own_realm_fits n 12 call.realm request (header_by call.realm request x) fits) found.0 ap_req found.1 found.2))
+    has_of_carried call request is n few fits (own_realm_fits n 12 call.realm (beyond policy request) request (header_by policy call.realm request x) fits) found.0 ap_req found.1 found.2))

@@ -11,17 +11,16 @@ use Rattle.std.specs.Option.{is_some}
 use Rattle.decision_tables.specs.Tables.{Table, and_then, need, refuse}
 use Rattle.krb_ap_requests.specs.declared.presented.Authenticated.{Authenticated}
 use Rattle.krb_kdc_exchanges.specs.Call.{CallRecord}
-use Rattle.asn1_leaves.specs.GeneralizedTime.{seconds_of}
-use Rattle.krb_kdc_exchanges.specs.Granting.{replied}
-use Rattle.krb_kdc_exchanges.specs.Requests.{lasting, service_of}
+use Rattle.krb_kdc_exchanges.specs.Options.{asked_options}
+use Rattle.krb_kdc_exchanges.specs.Requests.{service_of}
 use Rattle.krb_messages.specs.Padata.{padata_in}
 use Rattle.krb_messages.specs.TicketGranting.{krbtgt_of}
 use Rattle.krb_kdc_exchanges.specs.ByTicket.{IsByTicket, IsInvolvedFurther}
-use Rattle.krb_kdc_exchanges.specs.TgsTable.{carried, covered, first_granted, further, further_grant, holds_back_des3, of_carried, of_authenticated, of_ticket, authenticated_near, reply_key, subkey_in, tgs_granted, tgs_table, ticket_granting, to_us}
+use Rattle.krb_kdc_exchanges.specs.TgsTable.{by_options, carried, covered, first_granted, further, further_lasting, further_replied, further_till, holds_back_des3, of_carried, of_authenticated, of_ticket, authenticated_near, reply_key, subkey_in, tgs_granted, tgs_table, ticket_granting, to_us}
 use Rattle.krb_kdc_exchanges.proofs.ByTicket.{by_padata, by_ticket}
 
 -- the value that is needed is the same, and what follows gives the same of it
-same_need : {A : Type 0} (o p : Option A) → o ≡ p → (code : ℕ) (f g : A → Table (Result (List ℕ) ℕ)) (r : Result (List ℕ) ℕ)
+pub same_need : {A : Type 0} (o p : Option A) → o ≡ p → (code : ℕ) (f g : A → Table (Result (List ℕ) ℕ)) (r : Result (List ℕ) ℕ)
     → ((a : A) → o ≡ Some a → (f a).gives r → (g a).gives r) → (need {A = A} o code f).gives r → (need {A = A} p code g).gives r
 same_need None p e code f g r same x = subst (λ q. (need q code g).gives r) e x
 same_need (Some a) p e code f g r same x = subst (λ q. (need q code g).gives r) e (same a refl x)
@@ -34,7 +33,7 @@ same_refuse o p e code t u r same x = subst (λ q. (refuse {T = List ℕ} (not (
     of_option None y = y
     of_option (Some account) y = same y
 
-same_then : {A : Type 0} (t : Table (Result A ℕ)) (f g : A → Table (Result (List ℕ) ℕ)) (r : Result (List ℕ) ℕ)
+pub same_then : {A : Type 0} (t : Table (Result A ℕ)) (f g : A → Table (Result (List ℕ) ℕ)) (r : Result (List ℕ) ℕ)
     → ((a : A) → t.gives (Ok a) → (f a).gives r → (g a).gives r) → (and_then t f).gives r → (and_then t g).gives r
 same_then t f g r same (inl (a, x, y)) = inl (a, x, same a x y)
 same_then t f g r same (inr refused) = inr refused
@@ -47,10 +46,12 @@ module _ (call : CallRecord) (other : Look) (request : KdcReq) (agree : (these :
   abbrev by_client : EncTicketPartInner → Authenticated → PrincipalName → AccountRecord → Option AccountRecord → Table (Result (List ℕ) ℕ)
   by_client part authenticated name service client =
       let body = request.req_body.0 in
-      and_then (lasting call.settings.lifetime call.moment (Some (seconds_of part.endtime.0.0)) body) (λ span.
+      let asked = asked_options call.settings.policy body.kdc_options.0 in
+      and_then {A = Unit {0}} (by_options call asked part name) (λ _.
+      and_then (further_lasting asked.renews call.settings.lifetime call.moment part body) (λ span.
       need (first_granted (holds_back_des3 call.settings.policy client service) body.etype.0) 14 (λ suite.
       need (reply_key authenticated.suite part.key.0.key_value.0 (subkey_in authenticated.authenticator)) 31 (λ under.
-      replied (further_grant call part name suite body span) under service call.words)))
+      further_replied call part name service suite under (further_till asked.renews call.settings.policy.renewable_life part span body) body span))))
 
   same_granted : (ap_req : ApReqInner) (part : EncTicketPartInner) (authenticated : Authenticated) → IsByTicket call request ap_req part
       → (tgs_granted call part authenticated request.req_body.0).gives r → (tgs_granted beside part authenticated request.req_body.0).gives r
@@ -85,7 +86,7 @@ module _ (call : CallRecord) (other : Look) (request : KdcReq) (agree : (these :
 
   pub same_further : (tgs_table call request).gives r → (tgs_table beside request).gives r
   same_further =
-      same_then {A = Unit {0}} (to_us call.realm request) (λ _. and_then (carried (padata_in request)) (of_carried call request.req_body.0))
+      same_then {A = Unit {0}} (to_us call.settings.policy call.realm request) (λ _. and_then (carried (padata_in request)) (of_carried call request.req_body.0))
       (λ _. and_then (carried (padata_in request)) (of_carried beside request.req_body.0)) r
       (λ _ x.
       same_then (carried (padata_in request)) (of_carried call request.req_body.0) (of_carried beside request.req_body.0) r

@@ -19,9 +19,9 @@ use Rattle.decision_tables.specs.Tables.{done, refuse}
 use Rattle.krb_tickets.specs.Grant.{GrantRecord}
 use Rattle.krb_tickets.specs.declared.reply.Exchange.{Exchange}
 use Rattle.krb_tickets.specs.declared.reply.Exchange.TheVariants.{As, Tgs}
-use Rattle.krb_tickets.specs.Parts.{flags_octet, reply_part, session_key_of, ticket_part}
+use Rattle.krb_tickets.specs.Parts.{flags_octet, front_octet, masked, reply_part, session_key_of, ticket_part}
 use Rattle.krb_tickets.specs.Sealed.{reply_part_bytes, ticket_part_bytes}
-use Rattle.krb_kdc_exchanges.specs.Requests.{header_rows, has_refused_option, is_postdated}
+use Rattle.krb_kdc_exchanges.specs.Requests.{header_rows, is_postdated}
 use Rattle.krb_kdc_exchanges.proofs.PartTrees.{AreFit, integer_tree, principal_name_tree, realm_tree, reply_fits, ticket_fits}
 use Rattle.krb_kdc_exchanges.proofs.RequestTrees.{body_fits, realm_fits}
 use Rattle.krb_kdc_exchanges.proofs.Short.{Fits, IsShort}
@@ -44,11 +44,16 @@ session_short suite words long bytes =
       short = omega (arith, seed_key_sized suite seed (seed_sized suite words long), key_below suite);
     }
 
-octet_below : (a b : Bool) → (if a then 0x40 else 0x00) + (if b then 0x20 else 0x00) < 256
-octet_below true true = omega arith
-octet_below true false = omega arith
-octet_below false true = omega arith
-octet_below false false = omega arith
+-- a bit is set or not
+masked_most : (set : Bool) (mask : ℕ) → masked set mask ≤ mask
+masked_most true mask = omega arith
+masked_most false mask = omega arith
+
+octet_below : (a b c : Bool) → masked a 0x80 + masked b 0x40 + masked c 0x20 < 256
+octet_below a b c = omega (arith, masked_most a 0x80, masked_most b 0x40, masked_most c 0x20)
+
+front_below : (a b c d : Bool) → masked a 0x40 + masked b 0x20 + masked c 0x10 + masked d 0x08 < 256
+front_below a b c d = omega (arith, masked_most a 0x40, masked_most b 0x20, masked_most c 0x10, masked_most d 0x08)
 
 -- what a grant holds is short
 pub record HoldsShort (n : ℕ) (grant : GrantRecord) : Type 0 where
@@ -61,7 +66,10 @@ pub record HoldsShort (n : ℕ) (grant : GrantRecord) : Type 0 where
 
 module _ (n : ℕ) (grant : GrantRecord) (x : HoldsShort n grant) where
   below : flags_octet grant.flags < 256
-  below = octet_below grant.flags.initial grant.flags.pre_authenticated
+  below = octet_below grant.flags.renewable grant.flags.initial grant.flags.pre_authenticated
+
+  low : front_octet grant.flags < 256
+  low = front_below grant.flags.forwardable grant.flags.forwarded grant.flags.proxiable grant.flags.proxy
 
   of_client : AreFit n grant.session grant.realm grant.client
   of_client = record { few = x.few; session_key = x.session; realm_name = x.realm; name_tree = x.client }
@@ -71,14 +79,14 @@ module _ (n : ℕ) (grant : GrantRecord) (x : HoldsShort n grant) where
 
   ticket_bytes : IsBytes (ticket_part_bytes (ticket_part grant))
   unfolding ticket_part ticket_part_bytes
-  ticket_bytes = (ticket_fits n grant.suite grant.session grant.realm grant.client of_client (flags_octet grant.flags) below grant.auth_time grant.starttime grant.endtime).written.bytes
+  ticket_bytes = (ticket_fits n grant.suite grant.session grant.realm grant.client of_client (front_octet grant.flags) (flags_octet grant.flags) low below grant.auth_time grant.starttime grant.endtime grant.renew_till).written.bytes
 
   reply_bytes : (exchange : Exchange) → IsBytes (reply_part_bytes exchange (reply_part grant))
   unfolding reply_part reply_part_bytes
   reply_bytes As =
-      (reply_fits n grant.suite grant.session grant.realm grant.service of_service (flags_octet grant.flags) below grant.auth_time grant.starttime grant.endtime 121 (omega arith) grant.nonce x.nonce).written.bytes
+      (reply_fits n grant.suite grant.session grant.realm grant.service of_service (front_octet grant.flags) (flags_octet grant.flags) low below grant.auth_time grant.starttime grant.endtime grant.renew_till 121 (omega arith) grant.nonce x.nonce).written.bytes
   reply_bytes Tgs =
-      (reply_fits n grant.suite grant.session grant.realm grant.service of_service (flags_octet grant.flags) below grant.auth_time grant.starttime grant.endtime 122 (omega arith) grant.nonce x.nonce).written.bytes
+      (reply_fits n grant.suite grant.session grant.realm grant.service of_service (front_octet grant.flags) (flags_octet grant.flags) low below grant.auth_time grant.starttime grant.endtime grant.renew_till 122 (omega arith) grant.nonce x.nonce).written.bytes
 
   pub is_written : (exchange : Exchange) → IsWritten exchange grant
   is_written exchange = record { ticket = ticket_bytes; reply = reply_bytes exchange }
@@ -94,11 +102,11 @@ same_bytes (x ∷ a) (y ∷ b) e =
     let rest : a ≡ b = same_bytes a b parts.1 in
     cc
 
-pub header_realm : (kind : ℕ) (realm : List ℕ) (request : KdcReq) → (header_rows kind realm request).gives (Ok tt) → request.req_body.0.realm.0 ≡ realm
-header_realm kind realm request x =
+pub header_realm : (kind : ℕ) (realm : List ℕ) (is_refused : Bool) (request : KdcReq) → (header_rows kind realm is_refused request).gives (Ok tt) → request.req_body.0.realm.0 ≡ realm
+header_realm kind realm is_refused request x =
     same_bytes request.req_body.0.realm.0 realm
     (rows (not (is_number 5 request.pvno.0)) (not (is_number kind request.msg_type.0)) (is_same_realm request.req_body.0.realm.0 realm)
-    (has_refused_option request.req_body.0.kdc_options.0) (is_postdated request.req_body.0.kdc_options.0) x)
+    is_refused (is_postdated request.req_body.0.kdc_options.0) x)
   where
     rows : (a b c d e : Bool) → (refuse {T = Unit {0}} {E = ℕ} a 3 (refuse b 40 (refuse (not c) 68 (refuse d 13 (refuse e 10 (done (Ok tt))))))).gives (Ok tt) → c ≡ true
     rows true b c d e y = absurd (cc (y))
@@ -107,6 +115,7 @@ header_realm kind realm request x =
     rows false false false d e y = absurd (cc (y))
 
 -- so the realm's name is as short as the request
-pub own_realm_fits : (n kind : ℕ) (realm : List ℕ) (request : KdcReq) → (header_rows kind realm request).gives (Ok tt) → Fits n (kdc_req_inner_tree request) → Fits n (realm_tree realm)
-own_realm_fits n kind realm request x fits =
-    subst (λ r. Fits n (realm_tree r)) (header_realm kind realm request x) (realm_fits n request.req_body.0 (body_fits n request fits))
+pub own_realm_fits : (n kind : ℕ) (realm : List ℕ) (is_refused : Bool) (request : KdcReq) → (header_rows kind realm is_refused request).gives (Ok tt) → Fits n (kdc_req_inner_tree request)
+    → Fits n (realm_tree realm)
+own_realm_fits n kind realm is_refused request x fits =
+    subst (λ r. Fits n (realm_tree r)) (header_realm kind realm is_refused request x) (realm_fits n request.req_body.0 (body_fits n request fits))

@@ -25,7 +25,7 @@ use Rattle.krb_crypto.specs.AgreedKeys.{agreed_key}
 use Rattle.krb_kdc_exchanges.specs.Rows.{PkinitRows}
 use Rattle.krb_kdc_exchanges.specs.Call.{CallRecord, pkinit_call, skew_of}
 use Rattle.krb_kdc_exchanges.specs.Grants.{granted}
-use Rattle.krb_kdc_exchanges.specs.Requests.{body_of, client_of, header_rows, lasting, service_of}
+use Rattle.krb_kdc_exchanges.specs.Requests.{body_of, client_of, has_refused_option, header_rows, lasting, service_of}
 use Rattle.krb_messages.specs.Padata.{padata_in}
 use Rattle.krb_kdc_exchanges.specs.declared.span.Span.{Span}
 
@@ -89,14 +89,15 @@ authenticated call rows client name request =
     authenticated_by call rows client name request (first_of PA_PK_AS_REQ (padata_in request))
 
 -- the whole table, for the accounts of client and service if they have one
--- Not judged: `rtime`, `addresses`, `enc-authorization-data` and `additional-tickets`; the `nonce` is copied, of any size (RFC 4120,
--- section 3.1.3). Test: `as rtime, addresses`, `as sealed authorization data`, `as additional tickets`, `as nonce`.
+-- Not judged: `rtime`, `addresses`, `enc-authorization-data` and `additional-tickets`, but `rtime` where the policy grants renewable tickets;
+-- the `nonce` is copied, of any size (RFC 4120, section 3.1.3). Test: `as rtime, addresses`, `as sealed authorization data`,
+-- `as additional tickets`, `as nonce`.
 -- Ignored: the name type of `cname` and of `sname`; names are compared by their components (RFC 4120, section 6.2). Test:
 -- `as client type`, `as service type`.
 -- Ignored: padata of other types (RFC 4120, section 3.1.3). Test: `as padata among others`.
 abbrev pub as_table : CallRecord → PkinitRows → Option AccountRecord → Option AccountRecord → KdcReq → Table (Result Bytes Code)
 as_table call rows of_client of_service request =
-    and_then (header_rows AS_REQ_MSG_TYPE call.realm request) (λ _.
+    and_then (header_rows AS_REQ_MSG_TYPE call.realm (has_refused_option (body_of request).kdc_options.0) request) (λ _.
     -- `cname` is there (RFC 4120, section 3.1.3). Test: `as client absent`.
     need (client_of (body_of request)) KDC_ERR_C_PRINCIPAL_UNKNOWN (λ client_name.
     -- `cname` has an account (RFC 4120, section 3.1.3). Test: `as client unknown`.
@@ -109,6 +110,9 @@ as_table call rows of_client of_service request =
     and_then (authenticated call rows client (components client_name) request) (λ under.
     -- The ticket has the flags initial and pre-authent, and a session key of the client's suite (RFC 4120, sections 2.1 and 3.1.3).
     -- Test: `as honest` of `kdc_exchanges.txt`.
-    -- The ticket has no renew-till and no caddr, and no realm is transited (RFC 4120, section 5.3). Test: `as honest`.
+    -- Without a policy the ticket has no other flag and no renew-till. It has no caddr, and no realm is transited (RFC 4120, section 5.3).
+    -- Test: `as honest`.
+    -- A ticket is forwardable and proxiable where the client asks for it and the policy allows it (RFC 4120, sections 2.5, 2.6 and 3.1.3).
+    -- Test: `as forwardable`, `as proxiable`, `as honest, company` of `company_realms.txt`.
     granted call (record { client_name = client_name; client = client; service_name = service_name; service = service })
     under span (body_of request))))))))

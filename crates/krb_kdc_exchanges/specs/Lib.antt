@@ -4,12 +4,15 @@ pub mod PkinitCalls
 pub mod Rows
 pub mod Call
 pub mod Requests
+pub mod Options
+pub mod Renewals
 pub mod Calls
 pub mod Granting
 pub mod Preauthentication
 pub mod Grants
 pub mod AsTable
 pub mod TgsTable
+pub mod Before
 pub mod SessionKeys
 pub mod ByTicket
 pub mod Errors

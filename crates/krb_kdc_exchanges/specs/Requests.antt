@@ -24,7 +24,7 @@ use Rattle.krb_realm_accounts.specs.Accounts.{Look}
 use Rattle.krb_kdc_exchanges.specs.Times.{end_of, start_of}
 use Rattle.krb_kdc_exchanges.specs.declared.span.Span.{Span}
 
--- one of forwarded, proxy, enc-tkt-in-skey, renew and validate (RFC 4120, section 5.4.1)
+-- one of forwarded, proxy, enc-tkt-in-skey, renew and validate, which an AS request can't have (RFC 4120, section 5.4.1)
 abbrev pub has_refused_option : Bits → Bool
 has_refused_option options =
     bit_of options FORWARDED || bit_of options PROXY || bit_of options ENC_TKT_IN_SKEY || bit_of options RENEW || bit_of options VALIDATE
@@ -50,21 +50,22 @@ account_of look (Some name) = look (components name)
 abbrev pub body_of : KdcReq → KdcReqBody
 body_of request = request.req_body.0
 
--- the request is of this message type, to this realm, and without an option that the realm doesn't grant
--- Ignored: other options (forwardable, proxiable, allow-postdate, renewable, renewable-ok, ..) (RFC 4120, section 5.4.1). Test:
--- `as harmless options`, `tgs harmless options`.
-abbrev pub header_rows : ℕ → Bytes → KdcReq → Table (Result (Unit {0}) Code)
-header_rows message_type realm request =
+-- the request is of this message type, to this realm, and without an option that is refused in its exchange
+-- Ignored: other options (allow-postdate, disable-transited-check, ..) (RFC 4120, section 5.4.1). Test: `as harmless options`,
+-- `tgs harmless options`.
+abbrev pub header_rows : ℕ → Bytes → Bool → KdcReq → Table (Result (Unit {0}) Code)
+header_rows message_type realm is_refused request =
     -- `pvno` is 5 (RFC 4120, section 5.4.1). Test: `as pvno`, `tgs pvno`.
     refuse (not (is_number KERBEROS_VERSION request.pvno.0)) KDC_ERR_BAD_PVNO
     -- `msg-type` is 10 in an AS-REQ, and 12 in a TGS-REQ (RFC 4120, section 5.4.1). Test: `as msg-type`, `tgs msg-type`.
     (refuse (not (is_number message_type request.msg_type.0)) KRB_AP_ERR_MSG_TYPE
     -- `realm` is this realm, character by character (RFC 4120, section 5.4.1). Test: `as realm`, `tgs realm`.
     (refuse (not (is_same_realm (body_of request).realm.0 realm)) KDC_ERR_WRONG_REALM
-    -- Of `kdc-options`, renew, validate, forwarded, proxy and enc-tkt-in-skey are refused (RFC 4120, section 5.4.1). Test:
+    -- Of `kdc-options`, renew, validate, forwarded, proxy and enc-tkt-in-skey are refused, but renew, forwarded and proxy in a TGS-REQ where
+    -- the policy allows them (RFC 4120, section 5.4.1). Test:
     -- `as option renew`, `as option validate`, `as option forwarded`, `as option proxy`, `as option enc-tkt-in-skey`,
     -- `tgs option renew`, `tgs option validate`, `tgs option forwarded`, `tgs option proxy`, `tgs option enc-tkt-in-skey`.
-    (refuse (has_refused_option (body_of request).kdc_options.0) KDC_ERR_BADOPTION
+    (refuse is_refused KDC_ERR_BADOPTION
     -- Of `kdc-options`, postdated is refused (RFC 4120, section 3.1.3). Test: `as option postdated`, `tgs option postdated`.
     (refuse (is_postdated (body_of request).kdc_options.0) KDC_ERR_CANNOT_POSTDATE
     (done (Ok tt))))))
@@ -85,14 +86,18 @@ sole_span lifetime moment old till a b x y = λ i. record {
 abbrev pub is_ended : Span → Bool
 is_ended span = nat_le (seconds_of span.endtime) (seconds_of span.starttime)
 
--- the seconds in which the ticket starts and ends
-abbrev pub lasting : Seconds → Micros → Option Seconds → KdcReqBody → Table (Result Span Code)
-lasting lifetime moment old body =
+-- the seconds in which a ticket starts and ends, which is to end at `till`
+abbrev pub lasting_to : Seconds → Micros → Option Seconds → Seconds → Table (Result Span Code)
+lasting_to lifetime moment old till =
     -- The endtime is the least of `till`, the starttime plus the lifetime, the presented ticket's endtime and the year 9999; `till`
     -- 19700101000000Z means no end (RFC 4120, sections 3.1.3, 3.3.3 and 5.4.1). Test: `as till edges`, `as padata among others`,
     -- `tgs till edges`, `tgs ticket end edges`.
-    make (IsSpan lifetime moment old (seconds_of body.till.0.0)) (sole_span lifetime moment old (seconds_of body.till.0.0)) (λ span.
+    make (IsSpan lifetime moment old till) (sole_span lifetime moment old till) (λ span.
     -- The endtime is after the starttime, which is now (RFC 4120, section 3.1.3). Test: `as till edges`, `tgs old end` of
     -- `five_suites.txt`.
     refuse (is_ended span) KDC_ERR_NEVER_VALID
     (done (Ok span)))
+
+-- the seconds in which the ticket that a request asks for starts and ends
+abbrev pub lasting : Seconds → Micros → Option Seconds → KdcReqBody → Table (Result Span Code)
+lasting lifetime moment old body = lasting_to lifetime moment old (seconds_of body.till.0.0)

@@ -4,11 +4,13 @@ use Rattle.std.specs.Bool.{nat_eq}
 use Rattle.std.specs.Cmp.Lexicographic.{pointwise}
 use Rattle.std.specs.List.{find, list_any}
 use Rattle.std.specs.Option.{is_some, option_map, option_map_or}
-use Rattle.picky_asn1.specs.BitString.{bit_of}
+use Rattle.picky_asn1.specs.BitString.{Bits, bit_of}
 use Rattle.asn1_leaves.specs.GeneralizedTime.{seconds_of}
+use Rattle.asn1_leaves.specs.declared.date.GeneralizedTime.{GeneralizedTime}
 use Rattle.picky_asn1.specs.Numbers.{is_number}
 use Rattle.picky_asn1.specs.Bytes.{Bytes}
 use Rattle.krb_time.specs.Skew.{is_far}
+use Rattle.krb_time.specs.Units.{Micros, Seconds}
 use Rattle.krb_crypto.specs.declared.suite.CipherSuite.{CipherSuite}
 use Rattle.krb_crypto.specs.declared.suite.CipherSuite.TheVariants.{Des3CbcSha1Kd}
 use Rattle.krb_crypto.specs.declared.suite.ChecksumSuite.{ChecksumSuite}
@@ -16,7 +18,7 @@ use Rattle.krb_crypto.specs.Sealing.{checksum_of}
 use Rattle.krb_crypto.specs.Suites.{checksum_number, checksum_suites, cipher_checksum, cipher_number, cipher_suites}
 use Rattle.krb_realm_accounts.specs.Account.{AccountRecord}
 use Rattle.krb_realm_accounts.specs.declared.policy.Policy.{Policy}
-use Rattle.krb_messages.specs.Names.{components, is_same_realm}
+use Rattle.krb_messages.specs.Names.{components, is_same_name, is_same_realm}
 use Rattle.krb_messages.specs.declared.data_types.authenticator.AuthenticatorInner.{AuthenticatorInner}
 use Rattle.krb_messages.specs.declared.data_types.checksum.Checksum.{Checksum}
 use Rattle.krb_messages.specs.declared.data_types.enc_ticket_part.EncTicketPartInner.{EncTicketPartInner}
@@ -24,36 +26,43 @@ use Rattle.krb_messages.specs.declared.data_types.encryption_key.EncryptionKey.{
 use Rattle.krb_messages.specs.declared.data_types.pa_data.PaData.{PaData}
 use Rattle.krb_messages.specs.declared.data_types.principal_name.PrincipalName.{PrincipalName}
 use Rattle.krb_messages.specs.Refusals.{Code}
-use Rattle.krb_constants.specs.declared.error_codes.TheConstants.{KDC_ERR_C_PRINCIPAL_UNKNOWN, KDC_ERR_S_PRINCIPAL_UNKNOWN, KDC_ERR_POLICY, KDC_ERR_ETYPE_NOSUPP, KDC_ERR_SUMTYPE_NOSUPP, KDC_ERR_PADATA_TYPE_NOSUPP, KRB_AP_ERR_BAD_INTEGRITY, KRB_AP_ERR_SKEW, KRB_AP_ERR_MODIFIED, KRB_AP_ERR_INAPP_CKSUM, KDC_ERR_WRONG_REALM}
+use Rattle.krb_constants.specs.declared.error_codes.TheConstants.{KDC_ERR_C_PRINCIPAL_UNKNOWN, KDC_ERR_S_PRINCIPAL_UNKNOWN, KDC_ERR_POLICY, KDC_ERR_BADOPTION, KDC_ERR_SERVER_NOMATCH, KDC_ERR_ETYPE_NOSUPP, KDC_ERR_SUMTYPE_NOSUPP, KDC_ERR_PADATA_TYPE_NOSUPP, KRB_AP_ERR_BAD_INTEGRITY, KRB_AP_ERR_TKT_EXPIRED, KRB_AP_ERR_SKEW, KRB_AP_ERR_MODIFIED, KRB_AP_ERR_INAPP_CKSUM, KDC_ERR_WRONG_REALM}
 use Rattle.krb_constants.specs.KeyUsages.{key_usage}
 use Rattle.krb_constants.specs.declared.key_usages.TheConstants.{TGS_REQ_PA_DATA_AP_REQ_AUTHENTICATOR, TGS_REQ_PA_DATA_AP_REQ_AUTHENTICATOR_CKSUM}
 use Rattle.krb_constants.specs.declared.padata_types.TheConstants.{PA_TGS_REQ}
-use Rattle.krb_constants.specs.declared.ticket_flags.TheConstants.{PRE_AUTHENT}
+use Rattle.krb_constants.specs.declared.kdc_options.TheConstants as option
+use Rattle.krb_constants.specs.declared.ticket_flags.TheConstants as flag
 use Rattle.krb_constants.specs.declared.types.TheConstants.{TGS_REQ_MSG_TYPE}
 use Rattle.krb_tickets.specs.Keys.{suite_of}
 use Rattle.krb_messages.specs.declared.messages.ap_req.ApReqInner.{ApReqInner}
 use Rattle.krb_messages.specs.declared.messages.kdc_req.KdcReq.{KdcReq}
 use Rattle.krb_messages.specs.declared.messages.kdc_req_body.KdcReqBody.{KdcReqBody}
 use Rattle.krb_messages.specs.Messages.{IsApReq, sole_ap_req}
-use Rattle.decision_tables.specs.Tables.{Table, and_then, ask, done, need, refuse}
+use Rattle.decision_tables.specs.Tables.{Table, and_then, ask, done, make, need, refuse}
 use Rattle.krb_messages.specs.Padata.{first_of}
 use Rattle.krb_tickets.specs.Grant.{GrantRecord}
+use Rattle.krb_tickets.specs.declared.grant.TicketFlags.{TicketFlags}
 use Rattle.krb_tickets.specs.Parts.{session_key_of}
 use Rattle.krb_tickets.specs.ReplyKeys.{ReplyKeyRecord, tgs_reply_key, tgs_subkey_reply_key}
 use Rattle.krb_ap_requests.specs.ApTable.{ap_fields, authenticated, enc_part_in, opened_part, timely}
 use Rattle.krb_ap_requests.specs.declared.presented.Authenticated.{Authenticated}
 use Rattle.krb_kdc_exchanges.specs.Call.{CallRecord, skew_of}
 use Rattle.krb_kdc_exchanges.specs.Granting.{replied}
-use Rattle.krb_kdc_exchanges.specs.Requests.{body_of, header_rows, lasting, service_of}
+use Rattle.krb_kdc_exchanges.specs.Options.{asked_options, has_option_beyond}
+use Rattle.krb_kdc_exchanges.specs.Renewals.{IsTill, asked_till, granted_till, is_outlived, is_renewable, life_of, renew_till_of, sole_till}
+use Rattle.krb_kdc_exchanges.specs.Requests.{body_of, header_rows, lasting, lasting_to, service_of}
+use Rattle.krb_kdc_exchanges.specs.Times.{no_end}
+use Rattle.krb_kdc_exchanges.specs.declared.options.AskedOptions.{AskedOptions}
 use Rattle.krb_messages.specs.Padata.{padata_in}
 use Rattle.krb_messages.specs.Bodies.{body_bytes}
 use Rattle.krb_messages.specs.TicketGranting.{krbtgt_of}
 use Rattle.krb_kdc_exchanges.specs.declared.span.Span.{Span}
 
--- the request is a TGS request to this realm, without `enc-authorization-data`, with which no ticket is granted
-abbrev pub to_us : Bytes → KdcReq → Table (Result (Unit {0}) Code)
-to_us realm request =
-    and_then (header_rows TGS_REQ_MSG_TYPE realm request) (λ _.
+-- the request is a TGS request to this realm, with options that the policy allows, and without `enc-authorization-data`, with which no
+-- ticket is granted
+abbrev pub to_us : Policy → Bytes → KdcReq → Table (Result (Unit {0}) Code)
+to_us policy realm request =
+    and_then (header_rows TGS_REQ_MSG_TYPE realm (has_option_beyond policy (body_of request).kdc_options.0) request) (λ _.
     -- There is no `enc-authorization-data` (RFC 4120, section 5.4.1). Test: `tgs sealed authorization data`.
     refuse (is_some (body_of request).enc_authorization_data.0) KDC_ERR_POLICY
     (done (Ok tt)))
@@ -172,26 +181,103 @@ abbrev pub reply_key : CipherSuite → Bytes → Option EncryptionKey → Option
 reply_key suite key None = Some (tgs_reply_key suite key)
 reply_key suite key (Some subkey) = under_subkey subkey
 
--- the service ticket: client, authtime and flag pre-authent are the presented ticket's, and the flag initial isn't set (RFC 4120,
--- section 5.3)
-abbrev pub further_grant : CallRecord → EncTicketPartInner → PrincipalName → CipherSuite → KdcReqBody → Span → GrantRecord
-further_grant call part service suite body span = record {
+-- the name is that of the realm's ticket-granting service
+abbrev pub is_granting : Bytes → List Bytes → Bool
+is_granting realm name = is_same_name name (krbtgt_of realm)
+
+-- what the options renew, forwarded and proxy need of the presented ticket and of the service that is asked for
+abbrev pub by_options : CallRecord → AskedOptions → EncTicketPartInner → PrincipalName → Table (Result (Unit {0}) Code)
+by_options call asked part service_name =
+    -- By forwarded the presented ticket is forwardable (RFC 4120, section 3.3.3). Test: `tgs forwarded, not forwardable`,
+    -- `tgs forwarded` of `company_realms.txt`.
+    refuse (asked.forwards && not (bit_of part.flags.0 flag.FORWARDABLE)) KDC_ERR_BADOPTION
+    -- By proxy the presented ticket is proxiable (RFC 4120, section 3.3.3). Test: `tgs proxy, not proxiable`, `tgs proxy` of
+    -- `company_realms.txt`.
+    (refuse (asked.proxies && not (bit_of part.flags.0 flag.PROXIABLE)) KDC_ERR_BADOPTION
+    -- By renew the presented ticket is renewable, and has a renew-till (RFC 4120, section 3.3.3). Test: `tgs renew, not renewable`,
+    -- `tgs renew, no renew-till`, `tgs renew` of `company_realms.txt`.
+    (refuse (asked.renews && not (is_renewable part)) KDC_ERR_BADOPTION
+    -- By renew its renew-till is after now (RFC 4120, section 3.3.3). Test: `tgs renew, renew-till edges` of `company_realms.txt`.
+    (refuse (asked.renews && is_outlived call.moment part) KRB_AP_ERR_TKT_EXPIRED
+    -- By renew and forwarded `sname` is the ticket-granting service, as in the presented ticket (RFC 4120, sections 3.3.1 and 7.5.9). Test:
+    -- `tgs renew for a service`, `tgs forwarded for a service` of `company_realms.txt`.
+    (refuse ((asked.renews || asked.forwards) && not (is_granting call.realm (components service_name))) KDC_ERR_SERVER_NOMATCH
+    -- By proxy `sname` isn't the ticket-granting service (RFC 4120, section 3.3.3). Test: `tgs proxy for krbtgt` of `company_realms.txt`.
+    (refuse (asked.proxies && is_granting call.realm (components service_name)) KDC_ERR_BADOPTION
+    (done (Ok tt)))))))
+
+-- the seconds in which the ticket starts and ends
+abbrev pub further_lasting : Bool → Seconds → Micros → EncTicketPartInner → KdcReqBody → Table (Result Span Code)
+further_lasting false lifetime moment part body = lasting lifetime moment (Some (seconds_of part.endtime.0.0)) body
+further_lasting true lifetime moment part body =
+    -- A renewed ticket ends with its renew-till, or earlier: it lasts as long as the presented one at most (RFC 4120, section 3.3.3). Test:
+    -- `tgs renew`, `tgs renew, last days`, `tgs renew, no starttime` of `company_realms.txt`.
+    -- Ignored: the `till` of a request by renew (RFC 4120, section 3.3.3). Test: `tgs renew, till past`.
+    lasting_to (life_of part) moment (renew_till_of part) no_end
+
+-- the renew-till that is asked for by a renewable ticket, and none by another one
+abbrev pub further_asked : EncTicketPartInner → KdcReqBody → Option Seconds
+further_asked part body = if is_renewable part then asked_till body else None
+
+-- the ticket's renew-till, if it has one
+abbrev pub further_till : Bool → Seconds → EncTicketPartInner → Span → KdcReqBody → Option Seconds
+further_till false life part span body = granted_till life span (renew_till_of part) (further_asked part body)
+further_till true life part span body =
+    -- A renewed ticket has the renew-till of the presented one (RFC 4120, section 3.3.3). Test: `tgs renew` of `company_realms.txt`.
+    renew_till_of part
+
+-- the ticket's flags: forwardable and proxiable as far as the presented ticket has them, forwarded by option or as the presented ticket has
+-- it, proxy by option, and pre-authent as the presented ticket has it; the flag initial isn't set (RFC 4120, section 5.3)
+abbrev pub further_flags : Policy → AskedOptions → Bits → Bits → Option GeneralizedTime → TicketFlags
+further_flags policy asked options old till = record {
+  forwardable = (bit_of options option.FORWARDABLE && bit_of old flag.FORWARDABLE) && policy.forwardable;
+  forwarded = asked.forwards || (bit_of old flag.FORWARDED && policy.forwardable);
+  proxiable = (bit_of options option.PROXIABLE && bit_of old flag.PROXIABLE) && policy.proxiable;
+  proxy = asked.proxies;
+  renewable = is_some till;
+  initial = false;
+  pre_authenticated = bit_of old flag.PRE_AUTHENT;
+}
+
+-- the flags of what a request with these options is granted by the presented ticket
+abbrev pub granted_flags : Policy → EncTicketPartInner → KdcReqBody → Option GeneralizedTime → TicketFlags
+granted_flags policy part body till = further_flags policy (asked_options policy body.kdc_options.0) body.kdc_options.0 part.flags.0 till
+
+-- the ticket: client and authtime are the presented ticket's
+abbrev pub further_grant : CallRecord → EncTicketPartInner → PrincipalName → CipherSuite → KdcReqBody → Span → Option GeneralizedTime → GrantRecord
+further_grant call part service suite body span till = record {
   suite = suite;
   session = session_key_of suite call.words;
   realm = call.realm;
   client = part.cname.0;
   service = service;
-  flags = record { initial = false; pre_authenticated = bit_of part.flags.0 PRE_AUTHENT };
+  flags = granted_flags call.settings.policy part body till;
   auth_time = part.auth_time.0.0;
   starttime = span.starttime;
   endtime = span.endtime;
+  renew_till = till;
   nonce = body.nonce.0;
 }
 
--- the reply that grants the service ticket, sealed under the reply key
-abbrev pub further : CallRecord → EncTicketPartInner → Authenticated → PrincipalName → AccountRecord → KdcReqBody → Table (Result Bytes Code)
-further call part authenticated service_name service body =
-    and_then (lasting call.settings.lifetime call.moment (Some (seconds_of part.endtime.0.0)) body) (λ span.
+-- the reply that grants this ticket with its renew-till, if it has one, sealed under the reply key
+abbrev pub further_replied : CallRecord → EncTicketPartInner → PrincipalName → AccountRecord → CipherSuite → ReplyKeyRecord → Option Seconds → KdcReqBody → Span → Table (Result Bytes Code)
+further_replied call part service_name service suite under wanted body span =
+    -- The ticket has client, authtime and flag pre-authent of the presented ticket; the flag initial isn't set (RFC 4120, section
+    -- 3.3.3). Test: `tgs honest`, `tgs ticket flags short`.
+    -- A ticket is forwardable and proxiable where the client asks for it, the presented ticket is, and the policy allows it (RFC 4120,
+    -- sections 2.5, 2.6 and 3.3.3). Test: `tgs forwardable`, `tgs forwardable by another one`, `tgs proxiable` of `company_realms.txt`.
+    -- A ticket that is granted by a forwarded one is forwarded (RFC 4120, section 2.6). Test: `tgs by forwarded` of `company_realms.txt`.
+    -- A ticket is renewable where the presented one is, at most up to its renew-till (RFC 4120, section 3.3.3). Test: `tgs renewable`,
+    -- `tgs renewable by another one` of `company_realms.txt`.
+    -- Ignored: the presented ticket's authorization-data, caddr and transited, and without a policy its renew-till: nothing of them is in the
+    -- new ticket (RFC 4120, section 3.3.3). Test: `tgs short options` of `kdc_exchanges.txt`.
+    make (IsTill wanted) (sole_till wanted) (λ till.
+    replied (further_grant call part service_name suite body span till) under service call.words)
+
+-- the rows behind those for options: the ticket's times, the suite of its session key, and the reply key
+abbrev pub further_in : Bool → CallRecord → EncTicketPartInner → Authenticated → PrincipalName → AccountRecord → KdcReqBody → Table (Result Bytes Code)
+further_in renews call part authenticated service_name service body =
+    and_then (further_lasting renews call.settings.lifetime call.moment part body) (λ span.
     -- `etype` lists a known encryption type; the session key is of the first that is known (RFC 4120, section 3.3.3). Test:
     -- `tgs no known suite`, `tgs first known suite` of `five_suites.txt`.
     -- Where the policy limits triple DES, a session key is of it only if client or service has such a key (RFC 8429, section 7). Test:
@@ -200,11 +286,18 @@ further call part authenticated service_name service body =
     -- The type and length of the authenticator's subkey are a suite's, if there is one (RFC 3961, section 3). Test: `tgs subkey type`,
     -- `tgs subkey length` of `five_suites.txt`.
     need (reply_key authenticated.suite part.key.0.key_value.0 (subkey_in authenticated.authenticator)) KRB_AP_ERR_BAD_INTEGRITY (λ under.
-    -- The ticket has client, authtime and flag pre-authent of the presented ticket; the flag initial isn't set (RFC 4120, section
-    -- 3.3.3). Test: `tgs honest`, `tgs ticket flags short`.
-    -- Ignored: the presented ticket's authorization-data, caddr, transited and renew-till: nothing of them is in the new ticket (RFC 4120,
-    -- section 3.3.3). Test: `tgs short options` of `kdc_exchanges.txt`.
-    replied (further_grant call part service_name suite body span) under service call.words)))
+    further_replied call part service_name service suite under (further_till renews call.settings.policy.renewable_life part span body) body span)))
+
+-- the reply that grants the ticket, by the options of the request and then the further rows
+abbrev pub further_by : AskedOptions → CallRecord → EncTicketPartInner → Authenticated → PrincipalName → AccountRecord → KdcReqBody → Table (Result Bytes Code)
+further_by asked call part authenticated service_name service body =
+    and_then (by_options call asked part service_name) (λ _.
+    further_in asked.renews call part authenticated service_name service body)
+
+-- the reply that grants the ticket
+abbrev pub further : CallRecord → EncTicketPartInner → Authenticated → PrincipalName → AccountRecord → KdcReqBody → Table (Result Bytes Code)
+further call part authenticated service_name service body =
+    further_by (asked_options call.settings.policy body.kdc_options.0) call part authenticated service_name service body
 
 -- the name has an account
 abbrev pub has_account : CallRecord → PrincipalName → Bool
@@ -243,8 +336,9 @@ of_carried call body ap_req =
 
 -- the whole table
 -- Not judged: replay, since a realm remembers nothing between requests (RFC 4120, section 3.3.2). No test: the contract alone covers it.
--- Not judged: `from`, `rtime`, `addresses`, the body's `cname` and `additional-tickets` (RFC 4120, section 3.3.3). Test:
--- `tgs from edges`, `tgs body client`, `tgs additional tickets`, `tgs rtime, addresses` of `five_suites.txt`.
+-- Not judged: `from`, `rtime`, `addresses`, the body's `cname` and `additional-tickets`, but `rtime` where the policy grants renewable tickets
+-- (RFC 4120, section 3.3.3). Test: `tgs from edges`, `tgs body client`, `tgs additional tickets`, `tgs rtime, addresses` of
+-- `five_suites.txt`.
 -- Not judged: the ticket's caddr, transited and authorization-data, and the authenticator's seq-number and authorization-data (RFC 4120,
 -- sections 5.3 and 5.5.1). Test: `tgs short options`, `tgs authenticator extras` of `kdc_exchanges.txt`.
 -- Ignored: padata of other types (RFC 4120, section 3.3.2). Test: `tgs padata among others` of `five_suites.txt`.
@@ -252,6 +346,6 @@ of_carried call body ap_req =
 -- `five_suites.txt`.
 abbrev pub tgs_table : CallRecord → KdcReq → Table (Result Bytes Code)
 tgs_table call request =
-    and_then (to_us call.realm request) (λ _.
+    and_then (to_us call.settings.policy call.realm request) (λ _.
     and_then (carried (padata_in request))
     (of_carried call (body_of request)))

@@ -1,10 +1,15 @@
 //! Laws of every realm's replies.
-ghost use Rattle.std.specs.Prelude.{◌≡◌, ◌<◌, ◌^◌, ℕ, List, Option, length};
+ghost use Rattle.std.specs.Prelude.{◌≡◌, ◌↔◌, ◌<◌, ◌^◌, ℕ, List, Option, Result, length};
 ghost use Rattle.block_ciphers.specs.Bytes.{IsBytes};
+ghost use Rattle.krb_messages.specs.declared.messages.kdc_req.KdcReq.{KdcReq};
+ghost use Rattle.krb_realm_accounts.specs.Account.{AccountRecord};
+ghost use Rattle.krb_kdc_exchanges.specs.AsTable.{as_table};
+ghost use Rattle.krb_kdc_exchanges.specs.Before.{plain_as_table, plain_tgs_table, without_policy};
 ghost use Rattle.krb_kdc_exchanges.specs.Call.{CallRecord};
 ghost use Rattle.krb_kdc_exchanges.specs.Calls.{IsCall};
 ghost use Rattle.krb_kdc_exchanges.specs.Involved.{IsOfInvolvedAlone};
 ghost use Rattle.krb_kdc_exchanges.specs.Replies.{Replies};
+ghost use Rattle.krb_kdc_exchanges.specs.TgsTable.{tgs_table};
 ghost use Rattle.decision_tables.specs.Some.{HasSome};
 
 use crate::Pkinit;
@@ -26,4 +31,14 @@ pub fn one_reply<P: Pkinit>(pkinit: &P)
 /// table gives nothing. It does nothing when it runs: its contract is the law.
 pub fn has_reply<P: Pkinit>(pkinit: &P)
     ensures { (call : CallRecord) (request : List ℕ) → IsCall call → IsBytes request → length request < 2 ^ 64 → HasSome (Replies call (P.rows pkinit.now) request) }
+{}
+
+/// Where a realm sets no policy, its tables are those without one: renew, forwarded and proxy are refused, and what is granted has no flag
+/// but initial and pre-authent and no renew-till, whatever the request asks for. It does nothing when it runs: its contract is the law.
+pub fn as_before<P: Pkinit>(pkinit: &P)
+    ensures first { (call : CallRecord) (of_client of_service : Option AccountRecord) (request : KdcReq) (r : Result (List ℕ) ℕ)
+        → (as_table (without_policy call) (P.rows pkinit.now) of_client of_service request).gives r
+        ↔ (plain_as_table (without_policy call) (P.rows pkinit.now) of_client of_service request).gives r }
+    ensures further { (call : CallRecord) (request : KdcReq) (r : Result (List ℕ) ℕ)
+        → (tgs_table (without_policy call) request).gives r ↔ (plain_tgs_table (without_policy call) request).gives r }
 {}

@@ -1,16 +1,18 @@
 //! The fields of a KDC-REQ, and the rows that AS and TGS requests share.
-ghost use Rattle.std.specs.Prelude.{◌≡◌, IfOk};
+ghost use Rattle.std.specs.Prelude.{◌≡◌, ◌≤◌, IfOk};
 ghost use Rattle.std.specs.Option.{option_copied, option_map};
 ghost use Rattle.krb_messages.specs.RandomBytes.{AreEnoughForReply};
 ghost use Rattle.krb_realm_accounts.specs.Accounts.{look_in};
-ghost use Rattle.krb_kdc_exchanges.specs.Requests.{account_of, header_rows, client_of, has_refused_option, is_ended, is_postdated, lasting, service_of};
+ghost use Rattle.krb_kdc_exchanges.specs.Requests.{account_of, header_rows, client_of, has_refused_option, is_ended, is_postdated, lasting, lasting_to, service_of};
+ghost use Rattle.krb_kdc_exchanges.specs.Times.{last_second};
 ghost use Rattle.krb_messages.specs.Padata.{padata_in};
 ghost use Rattle.krb_tickets.specs.Parts.{session_key_of};
 ghost use Rattle.krb_messages.specs.Refusals.{IsJudged};
 ghost use Rattle.asn1_leaves.specs.GeneralizedTime.{seconds_of};
 
 use crate::span::Span;
-use crate::{end_of, start_of};
+use crate::start_of;
+use crate::times::end_within;
 use krb_constants::types::KERBEROS_VERSION;
 use krb_constants::{error_codes, kdc_options};
 use krb_crypto::CipherSuite;
@@ -25,13 +27,15 @@ use picky_asn1::date::GeneralizedTime;
 use picky_asn1::wrapper::{BitStringAsn1, GeneralStringAsn1, OctetStringAsn1};
 use std::alloc::{AllocError, Global};
 
-/// Judges a request's header: it has to be of version 5, of this message type and to this realm, without a refused option.
+/// Judges a request's header: it has to be of version 5, of this message type and to this realm, without an option that is refused in its
+/// exchange, and not postdated.
 pub fn check_header(
     message_type: u8,
     realm: &GeneralStringAsn1,
+    is_refused: bool,
     request: &KdcReq,
 ) -> Result<(), Refusal>
-    ensures { IsJudged (header_rows message_type realm.now request.now).gives result }
+    ensures { IsJudged (header_rows message_type realm.now is_refused request.now).gives result }
 {
     if !is_number(&request.pvno.0, KERBEROS_VERSION) {
         return Err(Refusal::Krb(error_codes::KDC_ERR_BAD_PVNO));
@@ -43,7 +47,7 @@ pub fn check_header(
     if !is_same_realm(&body.realm.0, realm) {
         return Err(Refusal::Krb(error_codes::KDC_ERR_WRONG_REALM));
     }
-    if has_refused_option(&body.kdc_options.0) {
+    if is_refused {
         return Err(Refusal::Krb(error_codes::KDC_ERR_BADOPTION));
     }
     if is_postdated(&body.kdc_options.0) {
@@ -52,8 +56,8 @@ pub fn check_header(
     Ok(())
 }
 
-// Whether forwarded, proxy, enc-tkt-in-skey, renew or validate is set (RFC 4120, section 5.4.1).
-fn has_refused_option(options: &BitStringAsn1) -> bool
+/// Whether forwarded, proxy, enc-tkt-in-skey, renew or validate is set, which an AS request can't have (RFC 4120, section 5.4.1).
+pub(crate) fn has_refused_option(options: &BitStringAsn1) -> bool
     ensures { result ≡ has_refused_option options.now }
 {
     options.bit(kdc_options::FORWARDED)
@@ -130,8 +134,22 @@ pub fn lasting(
 ) -> Result<Span, Refusal>
     ensures { IsJudged (lasting settings.lifetime moment (option_map seconds_of old) body.now).gives result }
 {
+    let till = body.till.0.0.seconds();
+    lasting_to(settings.lifetime(), moment, old, till)
+}
+
+/// The same by this lifetime, for a `till` in seconds.
+pub(crate) fn lasting_to(
+    lifetime: u64,
+    moment: Moment,
+    old: Option<GeneralizedTime>,
+    till: u64,
+) -> Result<Span, Refusal>
+    requires { lifetime ≤ last_second }
+    ensures { IsJudged (lasting_to lifetime moment (option_map seconds_of old) till).gives result }
+{
     let starttime = start_of(moment);
-    let endtime = end_of(settings, starttime, old, body.till.0.0);
+    let endtime = end_within(lifetime, starttime, old, till);
     let span = Span { starttime, endtime };
     if is_ended(span) {
         return Err(Refusal::Krb(error_codes::KDC_ERR_NEVER_VALID));

@@ -10,6 +10,8 @@ mod checksum;
 mod grant;
 mod judge;
 pub mod laws;
+mod options;
+mod renewing;
 mod whole;
 
 pub use whole::judge_tgs;

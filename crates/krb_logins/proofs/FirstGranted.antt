@@ -29,7 +29,8 @@ use Rattle.krb_kdc_exchanges.specs.AsTable.{as_table, authenticated, is_later, i
 use Rattle.krb_kdc_exchanges.specs.Call.{CallRecord}
 use Rattle.krb_kdc_exchanges.specs.Grants.{Principals, granted, initial_grant}
 use Rattle.krb_kdc_exchanges.specs.Times.{start_of}
-use Rattle.krb_kdc_exchanges.specs.Requests.{IsSpan, account_of, header_rows, client_of, is_ended, lasting, service_of}
+use Rattle.krb_kdc_exchanges.specs.Requests.{IsSpan, account_of, has_refused_option, header_rows, client_of, is_ended, lasting, service_of}
+use Rattle.krb_kdc_exchanges.specs.Renewals.{IsTill, asked_till, granted_till}
 use Rattle.krb_messages.specs.TicketGranting.{krbtgt_of}
 use Rattle.krb_kdc_exchanges.specs.declared.span.Span.{Span}
 use Rattle.krb_kdc_exchanges.specs.Replies.{Replies, as_reply, e_data_of, reply_of, tgs_reply}
@@ -72,6 +73,16 @@ module _ (call : CallRecord) (suite : CipherSuite) (body : KdcReqBody) where
       (found_lasting call.settings.lifetime call.moment None body not_ended) timely in
       (own.0, own.1, past_refuse {T = Span} {E = ℕ} (not (is_listed suite body)) 14 (done (Ok own.0)) r (ap not listed) own.2)
 
+-- seconds of none are no time's
+pub pub no_time : (till : Option GeneralizedTime) → IsTill None till → till ≡ None
+no_time None is = refl
+no_time (Some time) is = absurd (cc (is))
+
+-- where no renew-till is asked for, none is granted
+no_till : (life : ℕ) (span : Span) (old asked : Option ℕ) (till : Option GeneralizedTime) → asked ≡ None → IsTill (granted_till life span old asked) till → till ≡ None
+no_till life span old None till none is = no_time till is
+no_till life span old (Some asked) till none is = absurd (cc (none))
+
 -- what a request is granted that no row refuses, under a reply key of which this holds
 record IsGrantedBy (IsKey : ReplyKeyRecord → Type 0) (call : CallRecord) (asked : Principals) (body : KdcReqBody) (r : Result Bytes Code) : Type 0 where
   span : Span
@@ -79,7 +90,7 @@ record IsGrantedBy (IsKey : ReplyKeyRecord → Type 0) (call : CallRecord) (aske
   under : ReplyKeyRecord
   is_key : IsKey under
   bytes : Bytes
-  replied : IsTicketReply (initial_grant call asked body span) under asked.service call.words bytes
+  replied : IsTicketReply (initial_grant call asked body span None) under asked.service call.words bytes
   is : r ≡ Ok bytes
 
 -- the rows, from the last one on
@@ -110,7 +121,7 @@ module _ (IsKey : ReplyKeyRecord → Type 0) (call : CallRecord) (rows : PkinitR
   to_name = need (client_of request.req_body.0) 6 by_client_name
 
   granted_by : (asked : Principals) (r : Result Bytes ℕ)
-      → (header_rows 10 call.realm request).gives (Ok tt)
+      → (header_rows 10 call.realm (has_refused_option request.req_body.0.kdc_options.0) request).gives (Ok tt) → asked_till request.req_body.0 ≡ None
       → client_of request.req_body.0 ≡ Some asked.client_name → of_client ≡ Some asked.client
       → service_of request.req_body.0 ≡ Some asked.service_name → of_service ≡ Some asked.service
       → ((s : Result Span ℕ) → (possible call asked.client.suite request.req_body.0).gives s
@@ -118,8 +129,8 @@ module _ (IsKey : ReplyKeyRecord → Type 0) (call : CallRecord) (rows : PkinitR
       → ((s : Result ReplyKeyRecord ℕ) → (authenticated call rows asked.client (components asked.client_name) request).gives s
       → (under : ReplyKeyRecord) × IsKey under × (s ≡ Ok under))
       → (as_table call rows of_client of_service request).gives r → IsGrantedBy IsKey call asked request.req_body.0 r
-  granted_by asked r for_us client_name client service_name service can_be can_show x =
-      let a = past_then {A = Unit {0}} {T = Bytes} (header_rows 10 call.realm request) (λ _. to_name) tt r for_us x in
+  granted_by asked r for_us none client_name client service_name service can_be can_show x =
+      let a = past_then {A = Unit {0}} {T = Bytes} (header_rows 10 call.realm (has_refused_option request.req_body.0.kdc_options.0) request) (λ _. to_name) tt r for_us x in
       let b = past_need {T = Bytes} {E = ℕ} (client_of request.req_body.0) 6 by_client_name asked.client_name r client_name a in
       let c = past_need {T = Bytes} {E = ℕ} of_client 6 (by_client asked.client_name) asked.client r client b in
       let d = past_need {T = Bytes} {E = ℕ} (service_of request.req_body.0) 7 (by_service_name asked.client_name asked.client) asked.service_name r service_name c in
@@ -128,7 +139,17 @@ module _ (IsKey : ReplyKeyRecord → Type 0) (call : CallRecord) (rows : PkinitR
       (possible call asked.client.suite request.req_body.0) (to_grant asked) r can_be e in
       let g = past_found {A = ReplyKeyRecord} {T = Bytes} IsKey (authenticated call rows asked.client (components asked.client_name) request)
       (λ under. granted call asked under f.0 request.req_body.0) r can_show f.2 in
-      record { span = f.0; lasting = f.1; under = g.0; is_key = g.1; bytes = g.2.0; replied = g.2.1; is = g.2.2 }
+      let body = request.req_body.0 in
+      let plain : g.2.0 ≡ None = no_till call.settings.policy.renewable_life f.0 None (asked_till body) g.2.0 none g.2.1 in
+      record {
+        span = f.0;
+        lasting = f.1;
+        under = g.0;
+        is_key = g.1;
+        bytes = g.2.2.0;
+        replied = subst (λ till. IsTicketReply (initial_grant call asked body f.0 till) g.0 asked.service call.words g.2.2.0) plain g.2.2.1;
+        is = g.2.2.2;
+      }
 
 -- the suite that the client takes is its account's
 listed : (client : ClientRecord) (service : List Bytes) (till : GeneralizedTime) (nonce : ℕ) (suite : CipherSuite) → suite ≡ client.suite
@@ -139,7 +160,7 @@ listed client service till nonce suite same =
 
 -- the request's type and options are as they are to be, and its realm is this one
 for_realm : (padata : PaData) (client : ClientRecord) (service : List Bytes) (till : GeneralizedTime) (words : Random) (realm : Bytes) → client.realm ≡ realm
-    → (header_rows 10 realm (as_request_of padata (as_body client service till words))).gives (Ok tt)
+    → (header_rows 10 realm (has_refused_option (as_body client service till words).kdc_options.0) (as_request_of padata (as_body client service till words))).gives (Ok tt)
 for_realm padata client service till words realm same =
     by_refuse {T = Unit {0}} {E = ℕ} (not (is_same_realm client.realm realm)) 68 (done (Ok tt)) (Ok tt) (ap not (same_realm client.realm realm same)) refl
 
@@ -200,7 +221,7 @@ module _ (client : ClientRecord) (means : MeansRecord) (realm : RealmRecord) (ro
   grants padata it r x =
       granted_by IsAgreed call rows (realm.look client.components) (realm.look (krbtgt_of client.realm)) (request_with padata) asked r
       (for_realm padata client (krbtgt_of client.realm) login.till login.words_as realm.name met.honest.named.client)
-      refl met.honest.client.found refl granting_found can_be (can_show padata it) x
+      refl refl met.honest.client.found refl granting_found can_be (can_show padata it) x
 
   -- with the client's suite in place of its account's
   abbrev grant_in : Span → CipherSuite → GrantRecord

@@ -46,6 +46,8 @@ use Rattle.krb_ap_requests.specs.declared.presented.Authenticated.{Authenticated
 use Rattle.krb_kdc_exchanges.specs.Rows.{PkinitRows}
 use Rattle.krb_kdc_exchanges.specs.Call.{CallRecord, skew_of}
 use Rattle.krb_kdc_exchanges.specs.Granting.{replied}
+use Rattle.krb_kdc_exchanges.specs.Options.{asked_options}
+use Rattle.krb_kdc_exchanges.specs.declared.options.AskedOptions.{AskedOptions}
 use Rattle.krb_kdc_exchanges.specs.Requests.{account_of, client_of, is_ended, lasting, service_of}
 use Rattle.krb_messages.specs.Bodies.{body_bytes}
 use Rattle.krb_messages.specs.TicketGranting.{krbtgt_of}
@@ -66,7 +68,7 @@ use Rattle.krb_logins.specs.Held.{IsFirstSpan, IsFurtherSpan, IsHeld, first_gran
 use Rattle.krb_logins.specs.Honest.{first_end, further_end}
 use Rattle.krb_logins.specs.Laws.{IsFurtherGranted, IsMet}
 use Rattle.krb_logins.specs.Parties.{LoginRecord, RealmRecord, RememberedRecord, call_at}
-use Rattle.krb_logins.proofs.FirstGranted.{found_lasting}
+use Rattle.krb_logins.proofs.FirstGranted.{found_lasting, no_time}
 use Rattle.krb_logins.proofs.Giving.{by_ask, by_need, by_refuse, past_found}
 use Rattle.krb_logins.proofs.GrantTaken.{session_key_sized, suite_of_key}
 use Rattle.krb_logins.proofs.Names.{are_texts, component_texts, granting_texts, own_name, own_realm, realm_text, same_name, same_realm}
@@ -84,9 +86,9 @@ unfolding element
 no_as_request content bytes e request is = let first = ap (λ b. get_or b 0 0) (sym e ∙ is.1) in omega (arith, first)
 
 -- the request's type and options are as they are to be, and its realm is this one
-for_realm : (client : ClientRecord) (service : List Bytes) (till : GeneralizedTime) (nonce : ℕ) (shown : Bytes) (realm : Bytes) → client.realm ≡ realm
-    → (to_us realm (tgs_request_of client service till nonce shown)).gives (Ok tt)
-for_realm client service till nonce shown realm same =
+for_realm : (client : ClientRecord) (service : List Bytes) (till : GeneralizedTime) (nonce : ℕ) (shown : Bytes) (policy : Policy) (realm : Bytes) → client.realm ≡ realm
+    → (to_us policy realm (tgs_request_of client service till nonce shown)).gives (Ok tt)
+for_realm client service till nonce shown policy realm same =
     inl (tt, by_refuse {T = Unit {0}} {E = ℕ} (not (is_same_realm client.realm realm)) 68 (done (Ok tt)) (Ok tt) (ap not (same_realm client.realm realm same)) refl, refl)
 
 -- the AP request is the first entry
@@ -338,8 +340,15 @@ module _ (client : ClientRecord) (means : MeansRecord) (realm : RealmRecord) (ro
           let own = met.honest.client in
           subst (λ suite. table.is_granted without suite ≡ true) own.suite (never_held_back realm.settings.policy own.account met.honest.service.account (realm.look client.components) own.found)
 
+      -- what the request asks for by its options: nothing
+      abbrev plain : AskedOptions
+      plain = asked_options realm.settings.policy body.kdc_options.0
+
+      abbrev wanted : Span → Option ℕ
+      wanted span = table.further_till plain.renews realm.settings.policy.renewable_life (ticket_part old) span body
+
       abbrev under_key : Span → CipherSuite → ReplyKeyRecord → Table (Result Bytes ℕ)
-      under_key span suite under = replied (table.further_grant call (ticket_part old) (principal_name 2 login.service) suite body span) under met.honest.service.account call.words
+      under_key span suite under = table.further_replied call (ticket_part old) (principal_name 2 login.service) met.honest.service.account suite under (wanted span) body span
 
       abbrev in_suite : Span → CipherSuite → Table (Result Bytes ℕ)
       in_suite span suite =
@@ -350,6 +359,12 @@ module _ (client : ClientRecord) (means : MeansRecord) (realm : RealmRecord) (ro
 
       abbrev to_service : AccountRecord → Table (Result Bytes ℕ)
       to_service account = further call (ticket_part old) shown (principal_name 2 login.service) account body
+
+      abbrev behind_options : Unit {0} → Table (Result Bytes ℕ)
+      behind_options _ = table.further_in plain.renews call (ticket_part old) shown (principal_name 2 login.service) met.honest.service.account body
+
+      no_options : (table.by_options call plain (ticket_part old) (principal_name 2 login.service)).gives (Ok tt)
+      no_options = refl
 
       abbrev by_name : PrincipalName → Table (Result Bytes ℕ)
       by_name name = need (call.look (components name)) 7 (λ account. further call (ticket_part old) shown name account body)
@@ -363,10 +378,14 @@ module _ (client : ClientRecord) (means : MeansRecord) (realm : RealmRecord) (ro
           let a = past_refuse {T = Bytes} {E = ℕ} (not (is_some (realm.look client.components))) 6 (need (service_of body) 7 by_name) r (ap (λ o. not (is_some o)) met.honest.client.found) x in
           let b = past_need {T = Bytes} {E = ℕ} (service_of body) 7 by_name (principal_name 2 login.service) r refl a in
           let c = past_need {T = Bytes} {E = ℕ} (realm.look login.service) 7 to_service met.honest.service.account r service_found b in
+          let o = past_then {A = Unit {0}} {T = Bytes} (table.by_options call plain (ticket_part old) (principal_name 2 login.service)) behind_options tt r no_options c in
           let d = past_found {A = Span} {T = Bytes} (IsFurtherSpan realm login first) (lasting realm.settings.lifetime login.realm_tgs (Some (seconds_of first.endtime)) body) in_span r
-          (found_lasting realm.settings.lifetime login.realm_tgs (Some (seconds_of first.endtime)) body not_ended) c in
+          (found_lasting realm.settings.lifetime login.realm_tgs (Some (seconds_of first.endtime)) body not_ended) o in
           let e = past_need {T = Bytes} {E = ℕ} (table.first_granted without (pos (cipher_number client.suite) ∷ [])) 14 (in_suite d.0) client.suite r (own_first without client.suite client_granted) d.2 in
-          (d.0, d.1, (e.0, e.1, e.2))
+          let none : e.0 ≡ None = no_time e.0 e.1 in
+          let grant : Option GeneralizedTime → GrantRecord = λ till. table.further_grant call (ticket_part old) (principal_name 2 login.service) client.suite body d.0 till in
+          let own = subst (λ till. IsTicketReply (grant till) (tgs_reply_key client.suite session) met.honest.service.account login.realm_words_tgs e.2.0) none e.2.1 in
+          (d.0, d.1, (e.2.0, own, e.2.2))
 
       abbrev by_account : AccountRecord → Table (Result Bytes ℕ)
       by_account account = and_then (ticket_granting call account presented) (of_ticket call body presented)
@@ -380,8 +399,8 @@ module _ (client : ClientRecord) (means : MeansRecord) (realm : RealmRecord) (ro
 
       table_grants : (r : Result Bytes ℕ) → (tgs_table call request).gives r → IsGrantedBy r
       table_grants r x =
-          let a = past_then {A = Unit {0}} {T = Bytes} (to_us realm.name request) (λ _. and_then (carried (padata_in request)) (of_carried call body)) tt r
-          (for_realm client login.service login.till (nonce_of login.words_tgs) shown_bytes realm.name met.honest.named.client) x in
+          let a = past_then {A = Unit {0}} {T = Bytes} (to_us realm.settings.policy realm.name request) (λ _. and_then (carried (padata_in request)) (of_carried call body)) tt r
+          (for_realm client login.service login.till (nonce_of login.words_tgs) shown_bytes realm.settings.policy realm.name met.honest.named.client) x in
           let b = past_then {A = ApReqInner} {T = Bytes} (carried (padata_in request)) (of_carried call body) presented r (is_carried shown_bytes presented is_presented) a in
           let c = past_need {T = Bytes} {E = ℕ} (realm.look (krbtgt_of realm.name)) 7 by_account met.granting.account r met.granting.found b in
           let d = past_then {A = EncTicketPartInner} {T = Bytes} (ticket_granting call met.granting.account presented) (of_ticket call body presented) (ticket_part old) r of_granting c in

@@ -1,7 +1,7 @@
 -- The requests of clients can be written: nothing is missing in their trees.
-use Rattle.std.proofs.Common.{◌≡◌, ℕ, true, List, [], ◌∷◌, None, Some, refl, sym, subst}
+use Rattle.std.proofs.Common.{◌≡◌, ℕ, true, List, [], ◌∷◌, Option, None, Some, refl, sym, subst}
 use Rattle.std.proofs.lemmas.Bool.{and_parts}
-use Rattle.asn1_der.specs.Tree.{AreWhole, IsWhole, Writes, leaf, trees_of}
+use Rattle.asn1_der.specs.Tree.{AreWhole, IsWhole, Trees, Writes, leaf, put, trees_of, wrapped}
 use Rattle.asn1_der.proofs.Spelling.{whole-wrapped}
 use Rattle.asn1_leaves.specs.CharSets.{is_general_string}
 use Rattle.asn1_leaves.specs.declared.date.GeneralizedTime.{GeneralizedTime}
@@ -13,7 +13,8 @@ use Rattle.krb_messages.specs.declared.data_types.encrypted_data.EncryptedData.{
 use Rattle.krb_messages.specs.declared.data_types.pa_data.PaData.{PaData}
 use Rattle.krb_messages.specs.declared.data_types.pa_enc_timestamp.PaEncTsEnc.{PaEncTsEnc}
 use Rattle.krb_messages.specs.Messages.{IsAsReq, IsTgsReq, as_req_tree, tgs_req_tree}
-use Rattle.krb_kdc_exchanges.proofs.PartTrees.{integer_tree}
+use Rattle.krb_tickets.specs.Parts.{tagged_till}
+use Rattle.krb_kdc_exchanges.proofs.PartTrees.{integer_tree, time_tree}
 use Rattle.krb_client.specs.AsRequest.{as_body_of_suites, as_request_of}
 use Rattle.krb_client.specs.Client.{ClientRecord}
 use Rattle.krb_client.specs.Messages.{as_request_bytes, encrypted_bytes, tgs_request_bytes, timestamp_bytes}
@@ -29,6 +30,11 @@ whole_texts first [] all = tt
 whole_texts first (text ∷ texts) all =
     let parts = and_parts (is_general_string text) (are_texts texts) all in
     (whole_text first text parts.0, whole_texts first texts parts.1)
+
+-- renew-till, if there is one, before further fields
+pub whole_till : (rest : Trees) → AreWhole rest → (till : Option GeneralizedTime) → AreWhole (put (λ tagged. wrapped 168 (time_tree tagged.0.0)) (tagged_till till) rest)
+whole_till rest whole None = whole
+whole_till rest whole (Some time) = ((tt, tt), whole)
 
 -- encrypted data, with a kvno or without
 pub whole_encrypted : (encrypted : EncryptedData) → IsWhole (held.encrypted_data_tree encrypted)

@@ -9,7 +9,7 @@ use Rattle.krb_messages.specs.RandomBytes.{Random, ticket_confounder}
 use Rattle.krb_messages.specs.declared.data_types.encrypted_data.EncryptedData.{EncryptedData}
 use Rattle.krb_realm_accounts.specs.Account.{AccountRecord}
 use Rattle.krb_tickets.specs.Grant.{GrantRecord}
-use Rattle.krb_tickets.specs.Parts.{flags_of, session_key_of, ticket_of, ticket_part}
+use Rattle.krb_tickets.specs.Parts.{flags_of, plain_flags, session_key_of, ticket_of, ticket_part}
 use Rattle.krb_tickets.specs.Sealed.{IsSealedData, ticket_part_bytes}
 use Rattle.krb_kdc_exchanges.specs.Requests.{IsSpan}
 use Rattle.krb_messages.specs.TicketGranting.{krbtgt_of}
@@ -19,7 +19,8 @@ use Rattle.krb_client.specs.Held.{principal_name}
 use Rattle.krb_client.specs.Requests.{nonce_of}
 use Rattle.krb_logins.specs.Parties.{LoginRecord, RealmRecord}
 
--- the first ticket, for the realm's ticket-granting service: a session key of the client's suite from the realm's random bytes
+-- the first ticket, for the realm's ticket-granting service: a session key of the client's suite from the realm's random bytes. The login
+-- asks for no other flag and no renew-till, and so it is granted none, whatever the policy.
 abbrev pub first_grant : ClientRecord → RealmRecord → LoginRecord → Span → GrantRecord
 first_grant client realm login span = record {
   suite = client.suite;
@@ -27,10 +28,11 @@ first_grant client realm login span = record {
   realm = realm.name;
   client = principal_name NT_PRINCIPAL client.components;
   service = principal_name NT_SRV_INST (krbtgt_of client.realm);
-  flags = record { initial = true; pre_authenticated = true };
+  flags = plain_flags true true;
   auth_time = span.starttime;
   starttime = span.starttime;
   endtime = span.endtime;
+  renew_till = None;
   nonce = pos (nonce_of login.words_as);
 }
 
@@ -47,10 +49,11 @@ further_grant client realm login first span = record {
   realm = realm.name;
   client = principal_name NT_PRINCIPAL client.components;
   service = principal_name NT_SRV_INST login.service;
-  flags = record { initial = false; pre_authenticated = true };
+  flags = plain_flags false true;
   auth_time = first.starttime;
   starttime = span.starttime;
   endtime = span.endtime;
+  renew_till = None;
   nonce = pos (nonce_of login.words_tgs);
 }
 

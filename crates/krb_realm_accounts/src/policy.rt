@@ -6,7 +6,18 @@ pub struct Policy {
     /// Session keys of triple DES are granted only where the account of the client or of the service has a key of triple DES (RFC 8429,
     /// section 7).
     pub limits_des3: bool,
+    /// A ticket is forwardable where the client asks for it (RFC 4120, section 2.6).
+    pub forwardable: bool,
+    /// A ticket is proxiable where the client asks for it (RFC 4120, section 2.5).
+    pub proxiable: bool,
+    /// How many seconds after its starttime a ticket may be renewed at most (RFC 4120, section 2.3). By 0 no ticket is renewable.
+    pub renewable_life: u32,
 }
 
 /// The policy of settings in which nobody sets one.
-pub const NO_POLICY: Policy = Policy { limits_des3: false };
+pub const NO_POLICY: Policy = Policy {
+    limits_des3: false,
+    forwardable: false,
+    proxiable: false,
+    renewable_life: 0,
+};

@@ -12,7 +12,7 @@ use Rattle.krb_constants.specs.declared.padata_types.TheConstants.{PA_PK_AS_REQ}
 use Rattle.krb_constants.specs.declared.types.TheConstants.{AS_REQ_MSG_TYPE}
 use Rattle.decision_tables.specs.Tables.{Table, and_then, need}
 use Rattle.krb_kdc_exchanges.specs.Call.{CallRecord}
-use Rattle.krb_kdc_exchanges.specs.Requests.{account_of, body_of, client_of, header_rows, service_of}
+use Rattle.krb_kdc_exchanges.specs.Requests.{account_of, body_of, client_of, has_refused_option, header_rows, service_of}
 use Rattle.krb_messages.specs.Padata.{padata_in}
 use Rattle.krb_messages.specs.declared.messages.kdc_req.KdcReq.{KdcReq}
 use Rattle.krb_kdc_exchanges.specs.Replies.{Replies, answered, as_reply, e_data_of}
@@ -29,7 +29,7 @@ none_first (Some padata) has told none = absurd (cc (told, none))
 -- The table of an AS request whose first PA-PK-AS-REQ is this, if it has one.
 abbrev table_by : CallRecord → PkinitRows → Option AccountRecord → Option AccountRecord → KdcReq → Option Bytes → Table (Result Bytes Code)
 table_by call rows of_client of_service request first =
-    and_then (header_rows AS_REQ_MSG_TYPE call.realm request) (λ _.
+    and_then (header_rows AS_REQ_MSG_TYPE call.realm (has_refused_option (body_of request).kdc_options.0) request) (λ _.
     need (client_of (body_of request)) KDC_ERR_C_PRINCIPAL_UNKNOWN (λ client_name.
     need of_client KDC_ERR_C_PRINCIPAL_UNKNOWN (λ client.
     need (service_of (body_of request)) KDC_ERR_S_PRINCIPAL_UNKNOWN (λ service_name.

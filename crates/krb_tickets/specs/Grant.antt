@@ -1,5 +1,5 @@
 -- What a ticket is granted with, in an AS or a TGS exchange (RFC 4120, sections 3.1.3, 3.3.3).
-use Rattle.std.specs.Prelude.{ℤ}
+use Rattle.std.specs.Prelude.{ℤ, Option}
 use Rattle.asn1_leaves.specs.declared.date.GeneralizedTime.{GeneralizedTime}
 use Rattle.picky_asn1.specs.Bytes.{Bytes}
 use Rattle.krb_crypto.specs.declared.suite.CipherSuite.{CipherSuite}
@@ -8,7 +8,7 @@ use Rattle.krb_tickets.specs.declared.grant.Grant as held
 use Rattle.krb_tickets.specs.declared.grant.TicketFlags.{TicketFlags}
 
 -- what a ticket is granted with: the session key and its suite, the realm of client and service, their names, the ticket's flags and
--- times, and the request's nonce
+-- times, of which a renewable ticket has a renew-till, and the request's nonce
 pub record GrantRecord : Type 0 where
   pub suite : CipherSuite
   pub session : Bytes
@@ -19,6 +19,7 @@ pub record GrantRecord : Type 0 where
   pub auth_time : GeneralizedTime
   pub starttime : GeneralizedTime
   pub endtime : GeneralizedTime
+  pub renew_till : Option GeneralizedTime
   pub nonce : ℤ
 
 -- the grant of the code, as definitions see it
@@ -33,5 +34,6 @@ grant_of this = record {
   auth_time = this.auth_time;
   starttime = this.starttime;
   endtime = this.endtime;
+  renew_till = this.renew_till;
   nonce = this.nonce.now;
 }

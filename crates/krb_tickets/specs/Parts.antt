@@ -1,14 +1,15 @@
 -- What a granted ticket and its reply hold (RFC 4120, sections 3.1.3, 3.3.3, 5.3, 5.4.2).
-use Rattle.std.specs.Prelude.{◌≡◌, ℕ, ◌+◌, List, [], ◌∷◌, Option, None, Some, true, false, pos, refl, if◌then◌else◌}
+use Rattle.std.specs.Prelude.{◌≡◌, ℕ, ◌+◌, Bool, List, [], ◌∷◌, Option, None, Some, true, false, pos, refl, if◌then◌else◌}
 use Rattle.std.specs.Option.{option_map}
 use Rattle.picky_asn1.specs.BitString.{Bits}
 use Rattle.picky_asn1.specs.Bytes.{Bytes}
+use Rattle.picky_asn1.specs.declared.wrapper.GeneralizedTimeAsn1.{GeneralizedTimeAsn1}
 use Rattle.asn1_leaves.specs.declared.date.GeneralizedTime.{GeneralizedTime}
 use Rattle.krb_crypto.specs.declared.suite.CipherSuite.{CipherSuite}
 use Rattle.krb_crypto.specs.Sealing.{seed_key_of}
 use Rattle.krb_crypto.specs.Suites.{cipher_seed_size}
 use Rattle.krb_constants.specs.declared.padata_types.TheConstants.{PA_PK_AS_REP}
-use Rattle.krb_constants.specs.declared.ticket_flags.TheConstants.{INITIAL_MASK, PRE_AUTHENT_MASK}
+use Rattle.krb_constants.specs.declared.ticket_flags.TheConstants.{FORWARDABLE_MASK, FORWARDED_MASK, INITIAL_MASK, PRE_AUTHENT_MASK, PROXIABLE_MASK, PROXY_MASK, RENEWABLE_MASK}
 use Rattle.krb_constants.specs.declared.types.TheConstants.{AS_REP_MSG_TYPE, KERBEROS_VERSION, TGS_REP_MSG_TYPE}
 use Rattle.krb_messages.specs.declared.data_types.encrypted_data.EncryptedData.{EncryptedData}
 use Rattle.krb_messages.specs.declared.data_types.enc_ticket_part.EncTicketPartInner.{EncTicketPartInner}
@@ -32,24 +33,53 @@ use Rattle.krb_tickets.specs.declared.reply.Exchange.TheVariants.{As, Tgs}
 abbrev pub session_key_of : CipherSuite → Random → Bytes
 session_key_of suite words = seed_key_of suite (session_seed (cipher_seed_size suite) words)
 
--- the second octet of a ticket's flags: initial is bit 9 of 32, and pre-authent bit 10 (RFC 4120, section 5.3)
-abbrev pub flags_octet : TicketFlags → ℕ
-flags_octet flags = (if flags.initial then INITIAL_MASK else 0x00) + (if flags.pre_authenticated then PRE_AUTHENT_MASK else 0x00)
+-- the bit where the flag is set
+abbrev pub masked : Bool → ℕ → ℕ
+masked set mask = if set then mask else 0x00
 
--- Of a ticket's flags, as 32 bits, initial and pre-authent alone can be set: not forwardable, proxiable, may-postdate or renewable (RFC
--- 4120, section 5.3). Test: `as harmless options`, `tgs harmless options` of `five_suites.txt`.
+-- the first octet of a ticket's flags: forwardable is bit 1 of 32, forwarded bit 2, proxiable bit 3, and proxy bit 4 (RFC 4120, section
+-- 5.3)
+abbrev pub front_octet : TicketFlags → ℕ
+front_octet flags =
+    masked flags.forwardable FORWARDABLE_MASK + masked flags.forwarded FORWARDED_MASK + masked flags.proxiable PROXIABLE_MASK + masked flags.proxy PROXY_MASK
+
+-- the second octet: renewable is bit 8, initial bit 9, and pre-authent bit 10
+abbrev pub flags_octet : TicketFlags → ℕ
+flags_octet flags = masked flags.renewable RENEWABLE_MASK + masked flags.initial INITIAL_MASK + masked flags.pre_authenticated PRE_AUTHENT_MASK
+
+-- Of a ticket's flags, as 32 bits, these seven alone can be set: not may-postdate, postdated or invalid (RFC 4120, section 5.3). Test:
+-- `as harmless options`, `tgs harmless options` of `five_suites.txt`.
 abbrev pub flags_of : TicketFlags → Bits
-flags_of flags = record { octets = 0x00 ∷ flags_octet flags ∷ 0x00 ∷ 0x00 ∷ []; unused = 0 }
+flags_of flags = record { octets = front_octet flags ∷ flags_octet flags ∷ 0x00 ∷ 0x00 ∷ []; unused = 0 }
+
+-- the flags of a ticket of which only initial and pre-authent may be set: neither forwardable nor proxiable nor renewable
+abbrev pub plain_flags : Bool → Bool → TicketFlags
+plain_flags initial pre_authenticated = record {
+  forwardable = false;
+  forwarded = false;
+  proxiable = false;
+  proxy = false;
+  renewable = false;
+  initial = initial;
+  pre_authenticated = pre_authenticated;
+}
 
 -- worked: the flags of an AS exchange's ticket, and of a TGS exchange's
-initial_flags : flags_of (record { initial = true; pre_authenticated = true }) ≡ record { octets = 0x00 ∷ 0x60 ∷ 0x00 ∷ 0x00 ∷ []; unused = 0 }
+initial_flags : flags_of (plain_flags true true) ≡ record { octets = 0x00 ∷ 0x60 ∷ 0x00 ∷ 0x00 ∷ []; unused = 0 }
 initial_flags = refl
 
-later_flags : flags_of (record { initial = false; pre_authenticated = true }) ≡ record { octets = 0x00 ∷ 0x20 ∷ 0x00 ∷ 0x00 ∷ []; unused = 0 }
+later_flags : flags_of (plain_flags false true) ≡ record { octets = 0x00 ∷ 0x20 ∷ 0x00 ∷ 0x00 ∷ []; unused = 0 }
 later_flags = refl
 
-no_flags : flags_of (record { initial = false; pre_authenticated = false }) ≡ record { octets = 0x00 ∷ 0x00 ∷ 0x00 ∷ 0x00 ∷ []; unused = 0 }
+no_flags : flags_of (plain_flags false false) ≡ record { octets = 0x00 ∷ 0x00 ∷ 0x00 ∷ 0x00 ∷ []; unused = 0 }
 no_flags = refl
+
+-- worked: the flags of a first ticket that is forwardable, proxiable and renewable, and of a forwarded one
+company_flags : flags_of (record (plain_flags true true) { forwardable = true; proxiable = true; renewable = true }) ≡ record { octets = 0x50 ∷ 0xe0 ∷ 0x00 ∷ 0x00 ∷ []; unused = 0 }
+company_flags = refl
+
+forwarded_flags : flags_of (record (plain_flags false true) { forwardable = true; forwarded = true }) ≡ record { octets = 0x60 ∷ 0x20 ∷ 0x00 ∷ 0x00 ∷ []; unused = 0 }
+forwarded_flags = refl
 
 -- the transited encoding that names no realm, as DOMAIN-X500-COMPRESS (RFC 4120, section 7.5.5)
 abbrev pub no_realms : TransitedEncoding
@@ -59,7 +89,11 @@ no_realms = record { tr_type = record { 0 = pos DOMAIN_X500_COMPRESS }; contents
 abbrev pub last_requests : GeneralizedTime → List LastReqInner
 last_requests start = record { lr_type = record { 0 = pos NO_LAST_REQUEST }; lr_value = record { 0 = record { 0 = start } } } ∷ []
 
--- the ticket's part under the service's key: it has no renew-till, no caddr and no authorization-data, and no realm transited
+-- renew-till, as ticket and reply have it, if there is one
+abbrev pub tagged_till : Option GeneralizedTime → Option (ExplicitContextTag 8 GeneralizedTimeAsn1)
+tagged_till till = option_map (λ time. record { 0 = record { 0 = time } }) till
+
+-- the ticket's part under the service's key: it has no caddr and no authorization-data, and no realm transited
 unfoldable pub ticket_part : GrantRecord → EncTicketPartInner
 ticket_part grant = record {
   flags = record { 0 = flags_of grant.flags };
@@ -70,7 +104,7 @@ ticket_part grant = record {
   auth_time = record { 0 = record { 0 = grant.auth_time } };
   starttime = record { 0 = Some (record { 0 = record { 0 = grant.starttime } }) };
   endtime = record { 0 = record { 0 = grant.endtime } };
-  renew_till = record { 0 = None };
+  renew_till = record { 0 = tagged_till grant.renew_till };
   caddr = record { 0 = None };
   authorization_data = record { 0 = None };
 }
@@ -86,7 +120,7 @@ reply_part grant = record {
   auth_time = record { 0 = record { 0 = grant.auth_time } };
   start_time = record { 0 = Some (record { 0 = record { 0 = grant.starttime } }) };
   end_time = record { 0 = record { 0 = grant.endtime } };
-  renew_till = record { 0 = None };
+  renew_till = record { 0 = tagged_till grant.renew_till };
   srealm = record { 0 = grant.realm };
   sname = record { 0 = grant.service };
   caddr = record { 0 = None };
@@ -101,6 +135,11 @@ one_session_key grant = refl
 one_end : (grant : GrantRecord) → (ticket_part grant).endtime.0 ≡ (reply_part grant).end_time.0
 unfolding ticket_part reply_part
 one_end grant = refl
+
+-- and one renew-till
+one_till : (grant : GrantRecord) → (ticket_part grant).renew_till.0 ≡ (reply_part grant).renew_till.0
+unfolding ticket_part reply_part
+one_till grant = refl
 
 -- the ticket, with its part as ciphertext
 unfoldable pub ticket_of : GrantRecord → EncryptedData → TicketInner

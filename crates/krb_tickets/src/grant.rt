@@ -40,6 +40,8 @@ pub struct Grant<'a> {
     pub starttime: GeneralizedTime,
     /// The second that the ticket ends in.
     pub endtime: GeneralizedTime,
+    /// The last second that a renewed ticket may end in, if the ticket is renewable.
+    pub renew_till: Option<GeneralizedTime>,
     /// The request's nonce, which the reply repeats.
     pub nonce: &'a IntegerAsn1,
 }
@@ -47,6 +49,16 @@ pub struct Grant<'a> {
 /// The flags of a ticket that a realm sets (RFC 4120, section 5.3); all others are zero.
 #[derive(Clone, Copy, Debug, PartialEq, Eq)]
 pub struct TicketFlags {
+    /// The ticket may be forwarded: bit 1.
+    pub forwardable: bool,
+    /// The ticket was forwarded, or granted by one that was: bit 2.
+    pub forwarded: bool,
+    /// Proxies may be granted by the ticket: bit 3.
+    pub proxiable: bool,
+    /// The ticket is a proxy: bit 4.
+    pub proxy: bool,
+    /// The ticket may be renewed: bit 8.
+    pub renewable: bool,
     /// The ticket was granted in an AS exchange, and not by another ticket: bit 9.
     pub initial: bool,
     /// The client authenticated itself before the first ticket was granted: bit 10.

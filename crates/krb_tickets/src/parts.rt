@@ -1,20 +1,23 @@
 //! The parts of a granted ticket and of its reply, before encryption.
-ghost use Rattle.std.specs.Prelude.{◌≡◌, IfOk};
+ghost use Rattle.std.specs.Prelude.{◌≡◌, ◌≤◌, IfOk};
 ghost use Rattle.krb_tickets.specs.Grant.{grant_of};
-ghost use Rattle.krb_tickets.specs.Parts.{flags_octet, flags_of, last_requests, no_realms, reply_part, ticket_part};
+ghost use Rattle.krb_tickets.specs.Parts.{flags_octet, flags_of, front_octet, last_requests, masked, no_realms, reply_part, tagged_till, ticket_part};
 
 use crate::encryption_key;
 use crate::grant::{Grant, TicketFlags};
-use krb_constants::ticket_flags::{INITIAL_MASK, PRE_AUTHENT_MASK};
+use krb_constants::ticket_flags::{
+    FORWARDABLE_MASK, FORWARDED_MASK, INITIAL_MASK, PRE_AUTHENT_MASK, PROXIABLE_MASK, PROXY_MASK,
+    RENEWABLE_MASK,
+};
 use krb_messages::data_types::{
-    EncTicketPartInner, KerberosFlags, LastReq, LastReqInner, TransitedEncoding,
+    EncTicketPartInner, KerberosFlags, KerberosTime, LastReq, LastReqInner, TransitedEncoding,
 };
 use krb_messages::messages::EncKdcRepPart;
 use picky_asn1::date::GeneralizedTime;
 use picky_asn1::wrapper::{
     Asn1SequenceOf, BitStringAsn1, GeneralizedTimeAsn1, IntegerAsn1, OctetStringAsn1,
 };
-use picky_asn1_der::{ExplicitContextTag, LentFields, Optional, both};
+use picky_asn1_der::{ExplicitContextTag, ExplicitContextTag8, LentFields, Optional, both};
 use std::alloc::{AllocError, Global};
 
 /// The encoding of transited realms that RFC 4120 names, DOMAIN-X500-COMPRESS (section 7.5.5).
@@ -45,7 +48,7 @@ pub(crate) fn ticket_part(
         auth_time: ExplicitContextTag(GeneralizedTimeAsn1(grant.auth_time)),
         starttime: Optional(Some(ExplicitContextTag(GeneralizedTimeAsn1(grant.starttime)))),
         endtime: ExplicitContextTag(GeneralizedTimeAsn1(grant.endtime)),
-        renew_till: Optional(None),
+        renew_till: Optional(tagged_till(grant.renew_till)),
         caddr: Optional(None),
         authorization_data: Optional(None),
     })
@@ -70,7 +73,7 @@ pub(crate) fn reply_part(alloc: Global, grant: &Grant<'_>) -> Result<EncKdcRepPa
         auth_time: ExplicitContextTag(GeneralizedTimeAsn1(grant.auth_time)),
         start_time: Optional(Some(ExplicitContextTag(GeneralizedTimeAsn1(grant.starttime)))),
         end_time: ExplicitContextTag(GeneralizedTimeAsn1(grant.endtime)),
-        renew_till: Optional(None),
+        renew_till: Optional(tagged_till(grant.renew_till)),
         srealm: ExplicitContextTag(copies.1.0),
         sname: ExplicitContextTag(copies.1.1.0),
         caddr: Optional(None),
@@ -82,24 +85,48 @@ pub(crate) fn reply_part(alloc: Global, grant: &Grant<'_>) -> Result<EncKdcRepPa
 fn flags_of(alloc: Global, flags: TicketFlags) -> Result<KerberosFlags, AllocError>
     ensures { IfOk result (λ bits. bits ≡ flags_of flags) }
 {
-    let octets = [0x00, flags_octet(flags), 0x00, 0x00];
+    let octets = [front_octet(flags), flags_octet(flags), 0x00, 0x00];
     let Ok(bits) = BitStringAsn1::new(alloc, &octets, 0) else {
         return Err(AllocError);
     };
     Ok(bits)
 }
 
+// The first of the four octets of a ticket's flags.
+fn front_octet(flags: TicketFlags) -> u8
+    ensures { result ≡ front_octet flags }
+{
+    masked(flags.forwardable, FORWARDABLE_MASK)
+        + masked(flags.forwarded, FORWARDED_MASK)
+        + masked(flags.proxiable, PROXIABLE_MASK)
+        + masked(flags.proxy, PROXY_MASK)
+}
+
 // The second of the four octets of a ticket's flags.
 fn flags_octet(flags: TicketFlags) -> u8
     ensures { result ≡ flags_octet flags }
 {
-    let initial = if flags.initial { INITIAL_MASK } else { 0x00 };
-    let pre_authenticated = if flags.pre_authenticated {
-        PRE_AUTHENT_MASK
-    } else {
-        0x00
-    };
-    initial + pre_authenticated
+    masked(flags.renewable, RENEWABLE_MASK)
+        + masked(flags.initial, INITIAL_MASK)
+        + masked(flags.pre_authenticated, PRE_AUTHENT_MASK)
+}
+
+// The bit where the flag is set.
+fn masked(set: bool, mask: u8) -> u8
+    ensures value { result ≡ masked set mask }
+    ensures at_most { result ≤ mask }
+{
+    if set { mask } else { 0x00 }
+}
+
+// renew-till as a field of the ticket's part and of the reply's.
+fn tagged_till(till: Option<GeneralizedTime>) -> Option<ExplicitContextTag8<KerberosTime>>
+    ensures { result ≡ tagged_till till }
+{
+    match till {
+        Some(time) => Some(ExplicitContextTag(GeneralizedTimeAsn1(time))),
+        None => None,
+    }
 }
 
 // Makes the transited encoding that names no realm.

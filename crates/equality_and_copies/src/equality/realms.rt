@@ -16,7 +16,7 @@ impl Equality for Moment {
 }
 
 impl Equality for Policy {
-    ghost is_equality = { fields policy_type (last booleans_Decides) };
+    ghost is_equality = { fields policy_type (both booleans_Decides (both booleans_Decides (both booleans_Decides (last unsigned_Decides)))) };
 }
 
 impl Equality for Settings {
@@ -31,5 +31,6 @@ impl Equality for RealmRefusal {
 }
 
 impl Equality for TicketFlags {
-    ghost is_equality = { fields ticket_flags_type (both booleans_Decides (last booleans_Decides)) };
+    ghost is_equality = { fields ticket_flags_type (both booleans_Decides (both booleans_Decides (both booleans_Decides
+        (both booleans_Decides (both booleans_Decides (both booleans_Decides (last booleans_Decides))))))) };
 }

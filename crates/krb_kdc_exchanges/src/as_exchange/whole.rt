@@ -7,6 +7,7 @@ ghost use Rattle.krb_kdc_exchanges.specs.Granting.{IsGranted};
 
 use crate::as_exchange::grant::{Principals, grant};
 use crate::as_exchange::judge::{authenticate, check_possible};
+use crate::requests::has_refused_option;
 use crate::{Call, Granted, Pkinit, check_header, client_of, service_of};
 use krb_constants::error_codes;
 use krb_constants::types::AS_REQ_MSG_TYPE;
@@ -28,8 +29,9 @@ pub fn judge_as<P: Pkinit>(
     requires { AreEnoughForReply call.now.words.now }
     ensures { IsGranted (as_table (call_of call.now) (P.rows pkinit.now) (option_copied client.entry) (option_copied service.entry) request.now).gives result }
 {
-    check_header(AS_REQ_MSG_TYPE, call.realm, request)?;
     let body = &request.req_body.0;
+    let is_refused = has_refused_option(&body.kdc_options.0);
+    check_header(AS_REQ_MSG_TYPE, call.realm, is_refused, request)?;
     let Some(client_name) = client_of(body) else {
         return Err(Refusal::Krb(error_codes::KDC_ERR_C_PRINCIPAL_UNKNOWN));
     };

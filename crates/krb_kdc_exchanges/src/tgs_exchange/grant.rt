@@ -8,21 +8,25 @@ ghost use Rattle.krb_tickets.specs.Grant.{grant_of};
 ghost use Rattle.krb_tickets.specs.ReplyKeys.{reply_key_of};
 ghost use Rattle.krb_crypto.specs.Keys.{KeyRecord};
 ghost use Rattle.krb_kdc_exchanges.specs.SessionKeys.{HasSessionKey, under};
-ghost use Rattle.krb_kdc_exchanges.specs.TgsTable.{first_granted, first_number, further, further_grant, has_des3_key, is_des3, is_granted, reply_key, subkey_in, suite_numbered, without_des3};
+ghost use Rattle.krb_kdc_exchanges.specs.TgsTable.{first_granted, first_number, further, further_flags, further_grant, further_in, granted_flags, has_des3_key, is_des3, is_granted, reply_key, subkey_in, suite_numbered, without_des3};
 
 use crate::granted::{Granted, granted_reply};
-use crate::{Call, Span, lasting, session_key};
+use crate::options::{AskedOptions, asked_options};
+use crate::tgs_exchange::options::check_options;
+use crate::tgs_exchange::renewing::{further_lasting, further_till};
+use crate::{Call, Span, session_key};
 use krb_ap_requests::Authenticated;
-use krb_constants::{error_codes, ticket_flags};
+use krb_constants::{error_codes, kdc_options, ticket_flags};
 use krb_crypto::{CipherSuite, Key};
 use krb_messages::data_types::{
     AuthenticatorInner, EncTicketPartInner, EncryptionKey, PrincipalName,
 };
 use krb_messages::messages::KdcReqBody;
 use krb_messages::{Refusal, is_number};
-use krb_realm_accounts::Account;
+use krb_realm_accounts::{Account, Policy};
 use krb_tickets::{Grant, ReplyKey, TicketFlags, key_of};
-use picky_asn1::wrapper::IntegerAsn1;
+use picky_asn1::date::GeneralizedTime;
+use picky_asn1::wrapper::{BitStringAsn1, IntegerAsn1};
 use std::alloc::{AllocError, Global};
 
 /// What the AP-REQ of a TGS request holds, decrypted: the ticket's part, its session key, and the authenticator under this key.
@@ -36,7 +40,8 @@ pub(crate) struct OpenedApReq<'a> {
     pub(crate) authenticated: &'a Authenticated,
 }
 
-/// Makes the reply with a ticket for the service, by the presented ticket and its authenticator (RFC 4120, section 3.3.3).
+/// Makes the reply with a ticket for the service, by the presented ticket and its authenticator, as the options ask for it (RFC 4120,
+/// section 3.3.3).
 pub(crate) fn grant(
     alloc: Global,
     call: &Call<'_>,
@@ -49,8 +54,27 @@ pub(crate) fn grant(
     requires key { HasSessionKey opened.now }
     ensures { IsGranted (further (call_of call.now) opened.now.part.now opened.now.authenticated.now service_name.now service.now body.now).gives result }
 {
+    let asked = asked_options(call.settings.policy(), &body.kdc_options.0);
+    check_options(call, asked, opened.part, service_name)?;
+    grant_in(alloc, call, opened, asked.renews, service_name, service, body)
+}
+
+// Makes the reply, where the options allow it. A renewed ticket has times of its own.
+fn grant_in(
+    alloc: Global,
+    call: &Call<'_>,
+    opened: &OpenedApReq<'_>,
+    renews: bool,
+    service_name: &PrincipalName,
+    service: &Account,
+    body: &KdcReqBody,
+) -> Result<Granted, Refusal>
+    requires words { AreEnoughForReply call.now.words.now }
+    requires key { HasSessionKey opened.now }
+    ensures { IsGranted (further_in renews (call_of call.now) opened.now.part.now opened.now.authenticated.now service_name.now service.now body.now).gives result }
+{
     let part = opened.part;
-    let span = lasting(call.settings, call.moment, Some(part.endtime.0.0), body)?;
+    let span = further_lasting(renews, call, part, body)?;
     let without = without_des3(call, part, service);
     let Some(suite) = first_granted(without, body.etype.0.as_slice()) else {
         return Err(Refusal::Krb(error_codes::KDC_ERR_ETYPE_NOSUPP));
@@ -59,7 +83,8 @@ pub(crate) fn grant(
         return Err(Refusal::Krb(error_codes::KRB_AP_ERR_BAD_INTEGRITY));
     };
     let under = reply_key(opened.key, &subkey);
-    let grant = further_grant(alloc, call, part, service_name, suite, body, span)?;
+    let till = further_till(renews, call, part, span, body);
+    let grant = further_grant(alloc, call, part, service_name, suite, body, span, till)?;
     let made = granted_reply(alloc, &grant, &under, service, call.words);
     drop(grant);
     let made = made?;
@@ -175,24 +200,62 @@ fn further_grant<'a>(
     suite: CipherSuite,
     body: &'a KdcReqBody,
     span: Span,
+    till: Option<GeneralizedTime>,
 ) -> Result<Grant<'a>, AllocError>
     requires { AreEnoughForReply call.now.words.now }
-    ensures { IfOk result (λ grant. grant_of grant ≡ further_grant (call_of call.now) part.now service_name.now suite body.now span) }
+    ensures { IfOk result (λ grant. grant_of grant ≡ further_grant (call_of call.now) part.now service_name.now suite body.now span till) }
 {
     let session = session_key(alloc, suite, call.words)?;
+    let flags = granted_flags(call.settings.policy(), part, body, till);
     Ok(Grant {
         suite,
         session,
         realm: call.realm,
         client: &part.cname.0,
         service: service_name,
-        flags: TicketFlags {
-            initial: false,
-            pre_authenticated: part.flags.0.bit(ticket_flags::PRE_AUTHENT),
-        },
+        flags,
         auth_time: part.auth_time.0.0,
         starttime: span.starttime,
         endtime: span.endtime,
+        renew_till: till,
         nonce: &body.nonce.0,
     })
+}
+
+// The flags of what is granted by the presented ticket.
+fn granted_flags(
+    policy: Policy,
+    part: &EncTicketPartInner,
+    body: &KdcReqBody,
+    till: Option<GeneralizedTime>,
+) -> TicketFlags
+    ensures { result ≡ granted_flags policy part.now body.now till }
+{
+    let options = &body.kdc_options.0;
+    let asked = asked_options(policy, options);
+    further_flags(policy, asked, options, &part.flags.0, till)
+}
+
+// The flags by the options and the presented ticket's flags: it is forwardable and proxiable as far as the presented ticket is.
+fn further_flags(
+    policy: Policy,
+    asked: AskedOptions,
+    options: &BitStringAsn1,
+    old: &BitStringAsn1,
+    till: Option<GeneralizedTime>,
+) -> TicketFlags
+    ensures { result ≡ further_flags policy asked options.now old.now till }
+{
+    let forwardable = options.bit(kdc_options::FORWARDABLE) && old.bit(ticket_flags::FORWARDABLE);
+    let proxiable = options.bit(kdc_options::PROXIABLE) && old.bit(ticket_flags::PROXIABLE);
+    let was_forwarded = old.bit(ticket_flags::FORWARDED) && policy.forwardable;
+    TicketFlags {
+        forwardable: forwardable && policy.forwardable,
+        forwarded: asked.forwards || was_forwarded,
+        proxiable: proxiable && policy.proxiable,
+        proxy: asked.proxies,
+        renewable: till.is_some(),
+        initial: false,
+        pre_authenticated: old.bit(ticket_flags::PRE_AUTHENT),
+    }
 }

@@ -5,6 +5,7 @@ ghost use Rattle.krb_messages.specs.TicketGranting.{krbtgt_of};
 ghost use Rattle.krb_kdc_exchanges.specs.TgsTable.{carried, client_and_times, authenticated_near, ticket_granting, to_us};
 ghost use Rattle.krb_messages.specs.Refusals.{IsJudged};
 
+use crate::options::has_option_beyond;
 use crate::{Call, check_header};
 use decision_tables::if_passed;
 use krb_ap_requests::{
@@ -17,15 +18,20 @@ use krb_constants::{error_codes, key_usages};
 use krb_messages::data_types::{EncTicketPartInner, PaData};
 use krb_messages::messages::{ApReqInner, KdcReq};
 use krb_messages::{Refusal, first_of, is_same_realm};
-use krb_realm_accounts::Account;
+use krb_realm_accounts::{Account, Policy};
 use picky_asn1::wrapper::GeneralStringAsn1;
 use std::alloc::Global;
 
-/// Judges the request's header, and refuses a request with `enc-authorization-data`.
-pub(crate) fn check_request(realm: &GeneralStringAsn1, request: &KdcReq) -> Result<(), Refusal>
-    ensures { IsJudged (to_us realm.now request.now).gives result }
+/// Judges the request's header by the options that the policy allows, and refuses a request with `enc-authorization-data`.
+pub(crate) fn check_request(
+    policy: Policy,
+    realm: &GeneralStringAsn1,
+    request: &KdcReq,
+) -> Result<(), Refusal>
+    ensures { IsJudged (to_us policy realm.now request.now).gives result }
 {
-    check_header(TGS_REQ_MSG_TYPE, realm, request)?;
+    let is_refused = has_option_beyond(policy, &request.req_body.0.kdc_options.0);
+    check_header(TGS_REQ_MSG_TYPE, realm, is_refused, request)?;
     if request.req_body.0.enc_authorization_data.0.is_some() {
         return Err(Refusal::Krb(error_codes::KDC_ERR_POLICY));
     }

@@ -27,7 +27,7 @@ pub fn judge_tgs(alloc: Global, call: &Call<'_>, request: &KdcReq) -> Result<Gra
     requires { AreEnoughForReply call.now.words.now }
     ensures { IsGranted (tgs_table (call_of call.now) request.now).gives result }
 {
-    check_request(call.realm, request)?;
+    check_request(call.settings.policy(), call.realm, request)?;
     let ap_req = carried(alloc, padata_in(request))?;
     let body = &request.req_body.0;
     let judged = judge_carried(alloc, call, body, &ap_req);

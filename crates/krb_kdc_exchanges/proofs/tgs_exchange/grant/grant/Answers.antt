@@ -1,39 +1,38 @@
-use Rattle.std.proofs.Common.{Some, ap, sym, ◌∙◌}
-use Rattle.std.specs.Option.{option_map}
-use Rattle.krb_crypto.specs.Keys.{KeyRecord}
-use Rattle.krb_tickets.specs.Grant.{grant_of}
-use Rattle.krb_tickets.specs.ReplyKeys.{reply_key_of}
+use Rattle.std.proofs.Common.{◌≡◌, Err, ap, subst, ◌∙◌}
+use Rattle.std.proofs.lemmas.Result.{err_from_is_err_and}
 use Rattle.krb_kdc_exchanges.specs.Call.{call_of}
-use Rattle.krb_kdc_exchanges.specs.SessionKeys.{under}
-use Rattle.krb_kdc_exchanges.specs.TgsTable.{first_granted}
-use Rattle.krb_kdc_exchanges.proofs.GrantedFurther.{given, no_key, no_suite}
+use Rattle.krb_kdc_exchanges.specs.Granting.{IsGranted}
+use Rattle.krb_kdc_exchanges.specs.Options.{asked_options}
+use Rattle.krb_kdc_exchanges.specs.TgsTable.{by_options, further_by, further_in}
+use Rattle.krb_kdc_exchanges.specs.declared.options.AskedOptions.{AskedOptions}
+use Rattle.krb_kdc_exchanges.proofs.Parts.{grant_passed, grant_refused}
 use Rattle.krb_kdc_exchanges.proofs.tgs_exchange.grant.grant.Goals as goal
 
-pub returns-in_default : goal.returns-in_default
-returns-in_default c =
-    no_suite (call_of c.args.call.now) c.args.opened.now.part.now c.args.opened.now.authenticated.now c.args.service_name.now c.args.service.now c.args.body.now c.in_ok-span.span c.in_ok-span.ensures
-    (sym c.in_default.is ∙ c.first_granted.ensures ∙ (λ i. first_granted (c.without_des3-without.ensures i) (c.as_slice.ensures i)))
-
-pub returns-in_default-subkey_of : goal.returns-in_default-subkey_of
-returns-in_default-subkey_of c =
-    let authenticated = c.args.opened.now.authenticated.now in
+pub returns-in_err-check_options : goal.returns-in_err-check_options
+returns-in_err-check_options c =
+    let call = call_of c.args.call.now in
     let part = c.args.opened.now.part.now in
-    let session : KeyRecord = record { suite = authenticated.suite; bytes = part.key.0.key_value.0 } in
-    no_key (call_of c.args.call.now) part authenticated c.args.service_name.now c.args.service.now c.args.body.now c.in_ok-span.span c.in_ok-span.ensures c.in-Some.suite
-    (sym c.in-Some.is ∙ c.first_granted.ensures ∙ (λ i. first_granted (c.without_des3-without.ensures i) (c.as_slice.ensures i)))
-    (sym (c.subkey_of.ensures session ∙ ap (λ o. option_map (under session) o) c.in_default-subkey_of.is))
+    let authenticated = c.args.opened.now.authenticated.now in
+    let name = c.args.service_name.now in
+    let service = c.args.service.now in
+    let body = c.args.body.now in
+    let own : AskedOptions = c.asked_options-asked.result in
+    let asked : own ≡ asked_options call.settings.policy body.kdc_options.0 = c.asked_options-asked.ensures ∙ ap (λ p. asked_options p body.kdc_options.0) c.policy.ensures in
+    let refusal = c.in_err-check_options.field-0.0 in
+    let exit = err_from_is_err_and c.from_residual.result c.from_residual.ensures.1 in
+    rw (exit.1, exit.2)
+    (subst (λ (these : AskedOptions). IsGranted (further_by these call part authenticated name service body).gives (Err refusal)) asked
+    (grant_refused {A = Unit {0}} (by_options call own part name) (λ _. further_in own.renews call part authenticated name service body) refusal c.in_err-check_options.ensures))
 
 pub returns : goal.returns
 returns c =
-    let authenticated = c.args.opened.now.authenticated.now in
+    let call = call_of c.args.call.now in
     let part = c.args.opened.now.part.now in
-    let session : KeyRecord = record { suite = authenticated.suite; bytes = part.key.0.key_value.0 } in (
-      given (call_of c.args.call.now) part authenticated c.args.service_name.now c.args.service.now c.args.body.now c.in_ok-span.span c.in_ok-span.ensures c.in-Some.suite
-          (reply_key_of c.reply_key-under.result) (grant_of c.in_ok-grant.grant) c.in_ok-made.made.reply.items
-          (sym c.in-Some.is ∙ c.first_granted.ensures ∙ (λ i. first_granted (c.without_des3-without.ensures i) (c.as_slice.ensures i)))
-          (sym
-          (c.subkey_of.ensures session ∙ ap (λ o. option_map (under session) o) c.in-Some-subkey_of.is
-          ∙ ap Some (sym (c.reply_key-under.ensures ∙ ap (λ k. under k c.in-Some-subkey_of.subkey) c.requires.key))))
-          c.in_ok-grant.ensures c.in_ok-made.ensures.reply,
-      c.in_ok-made.ensures.ticket,
-    )
+    let authenticated = c.args.opened.now.authenticated.now in
+    let name = c.args.service_name.now in
+    let service = c.args.service.now in
+    let body = c.args.body.now in
+    let own : AskedOptions = c.asked_options-asked.result in
+    let asked : own ≡ asked_options call.settings.policy body.kdc_options.0 = c.asked_options-asked.ensures ∙ ap (λ p. asked_options p body.kdc_options.0) c.policy.ensures in
+    subst (λ (these : AskedOptions). IsGranted (further_by these call part authenticated name service body).gives c.grant_in.result) asked
+    (grant_passed {A = Unit {0}} (by_options call own part name) (λ _. further_in own.renews call part authenticated name service body) tt c.grant_in.result c.in_ok-check_options.ensures c.grant_in.ensures)

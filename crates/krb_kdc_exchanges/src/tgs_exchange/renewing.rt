@@ -1,0 +1,58 @@
+//! The times of a ticket that is granted by a presented one.
+ghost use Rattle.std.specs.Prelude.{◌≡◌};
+ghost use Rattle.krb_kdc_exchanges.specs.Renewals.{IsTill};
+ghost use Rattle.krb_kdc_exchanges.specs.TgsTable.{further_asked, further_lasting, further_till};
+ghost use Rattle.krb_messages.specs.Refusals.{IsJudged};
+
+use crate::renewals::{asked_till, granted_till, is_renewable, life_of, renew_till_of};
+use crate::requests::lasting_to;
+use crate::times::NO_END;
+use crate::{Call, Span, lasting};
+use krb_messages::Refusal;
+use krb_messages::data_types::EncTicketPartInner;
+use krb_messages::messages::KdcReqBody;
+use picky_asn1::date::GeneralizedTime;
+
+/// The starttime and endtime of the ticket. A renewed one lasts as long as the presented ticket, and up to its renew-till (RFC 4120,
+/// section 3.3.3).
+pub(crate) fn further_lasting(
+    renews: bool,
+    call: &Call<'_>,
+    part: &EncTicketPartInner,
+    body: &KdcReqBody,
+) -> Result<Span, Refusal>
+    ensures { IsJudged (further_lasting renews call.now.settings.lifetime call.now.moment part.now body.now).gives result }
+{
+    if renews {
+        return lasting_to(life_of(part), call.moment, renew_till_of(part), NO_END);
+    }
+    lasting(call.settings, call.moment, Some(part.endtime.0.0), body)
+}
+
+/// The renew-till of the ticket, if it has one: a renewed one has that of the presented ticket.
+pub(crate) fn further_till(
+    renews: bool,
+    call: &Call<'_>,
+    part: &EncTicketPartInner,
+    span: Span,
+    body: &KdcReqBody,
+) -> Option<GeneralizedTime>
+    ensures { IsTill (further_till renews call.now.settings.policy.renewable_life part.now span body.now) result }
+{
+    if renews {
+        return renew_till_of(part);
+    }
+    let life = call.settings.policy().renewable_life;
+    granted_till(life, span, renew_till_of(part), further_asked(part, body))
+}
+
+// The renew-till that is asked for by a renewable ticket, in seconds, and none by another one.
+fn further_asked(part: &EncTicketPartInner, body: &KdcReqBody) -> Option<u64>
+    ensures { result ≡ further_asked part.now body.now }
+{
+    if is_renewable(part) {
+        asked_till(body)
+    } else {
+        None
+    }
+}
