@@ -22,7 +22,7 @@ use Rattle.krb_crypto.specs.declared.suite.CipherSuite.{CipherSuite}
 use Rattle.krb_crypto.specs.declared.suite.CipherSuite.TheVariants.{Aes128CtsHmacSha196, Aes256CtsHmacSha196, Des3CbcSha1Kd, Aes128CtsHmacSha256128, Aes256CtsHmacSha384192}
 use Rattle.krb_settings.specs.Fields.{suite_name}
 use Rattle.krb_account_texts.specs.Lines.{WrittenLine, comment, realm, account, account_fields, disabled_mark, guarded, line_text, further_text, realm_text, salt_text}
-use Rattle.krb_account_texts.specs.Reading.{account_in, disabled_of, fields, is_disabled, is_printed, judged_kvno, judged_name, key_in, kvno_in, line_in, line_of, name_in, pkinit_in, realm_in, realm_name_in, salt_in, seconds_in, settings_of, suite_in}
+use Rattle.krb_account_texts.specs.Reading.{account_in, disabled_of, fields, is_disabled, is_printed, judged_kvno, judged_name, key_in, kvno_in, line_in, line_of, name_in, pkinit_in, realm_in, realm_name_in, salt_in, seconds_in, settings_of, suite_in, limiting}
 use Rattle.krb_account_texts.specs.Writable.{ArePkinitBytes, IsAccount, IsComment, IsRealm, IsSalt, IsWritable}
 use Rattle.krb_account_texts.proofs.Numbers.{decimal-read}
 use Rattle.krb_account_texts.proofs.Plain.{all-both, all-cons, is_all_plain, is_plain, no_feed, no_tab, plain-decimal, plain-hex, plain-name, plain-suite, split-last, split-part}
@@ -249,7 +249,7 @@ further-parts lifetime plain false (Some octets) = two-parts lifetime (codes "pk
 further-parts lifetime plain true (Some octets) = two-parts lifetime (codes "limits-des3,pkinit") (encode_lower octets) plain refl (plain-hex octets)
 
 further-line : (name skew lifetime : List ℕ) (limits : Bool) (pkinit : Option Bytes)
-    → line_of (codes "realm" ∷ name ∷ skew ∷ lifetime ∷ further_fields limits pkinit) ≡ realm_in name skew lifetime (record { limits_des3 = limits }) (option_map encode_lower pkinit)
+    → line_of (codes "realm" ∷ name ∷ skew ∷ lifetime ∷ further_fields limits pkinit) ≡ realm_in name skew lifetime (limiting limits) (option_map encode_lower pkinit)
 further-line name skew lifetime false None = refl
 further-line name skew lifetime true None = refl
 further-line name skew lifetime false (Some octets) = refl
@@ -262,7 +262,8 @@ realm-line name settings pkinit is =
     let lifetime : List ℕ = decimal settings.lifetime in
     let last = further-parts lifetime (plain-lifetime name settings pkinit is) limits pkinit in
     ap line_of (realm-parts name settings pkinit is (further_text limits pkinit) (further_fields limits pkinit) last)
-    ∙ further-line name (decimal settings.skew) lifetime limits pkinit ∙ realm-again name settings pkinit is
+    ∙ further-line name (decimal settings.skew) lifetime limits pkinit
+    ∙ ap (λ policy. realm_in name (decimal settings.skew) lifetime policy (option_map encode_lower pkinit)) (sym is.policy_is) ∙ realm-again name settings pkinit is
 
 comment-line : (text : Bytes) → IsComment text → line_in text ≡ Ok (comment text)
 unfolding line_in

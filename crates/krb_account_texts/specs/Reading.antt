@@ -112,6 +112,10 @@ settings_of skew lifetime =
     if nat_le skew SKEW_LIMIT && (nat_le 1 lifetime && nat_le lifetime LIFETIME_LIMIT) then Ok (record { skew = skew; lifetime = lifetime; policy = NO_POLICY })
     else Err fault.Seconds
 
+-- The policy that limits session keys of triple DES or doesn't, and nothing else: the one that a text has a word for.
+abbrev pub limiting : Bool → Policy
+limiting limits = record NO_POLICY { limits_des3 = limits }
+
 -- The settings with this policy.
 abbrev pub with_policy : Policy → SettingsRecord → SettingsRecord
 with_policy policy settings = record { skew = settings.skew; lifetime = settings.lifetime; policy = policy }
@@ -139,8 +143,8 @@ realm_in name skew lifetime policy digits = do
 abbrev pub realm_with : List ℕ → List ℕ → List ℕ → List ℕ → List ℕ → Result WrittenLine LineFault
 realm_with name skew lifetime words digits =
     if pointwise nat_eq words (codes "pkinit") then realm_in name skew lifetime NO_POLICY (Some digits)
-    else (if pointwise nat_eq words (codes "limits-des3,pkinit") then realm_in name skew lifetime (record { limits_des3 = true }) (Some digits)
-    else (if pointwise nat_eq words (codes "limits-des3") && pointwise nat_eq digits (codes "-") then realm_in name skew lifetime (record { limits_des3 = true }) None
+    else (if pointwise nat_eq words (codes "limits-des3,pkinit") then realm_in name skew lifetime (limiting true) (Some digits)
+    else (if pointwise nat_eq words (codes "limits-des3") && pointwise nat_eq digits (codes "-") then realm_in name skew lifetime (limiting true) None
     else Err fault.Fields))
 
 -- The line of these fields: of four, the first of which is the word `realm`, of these with two further ones, or of five.

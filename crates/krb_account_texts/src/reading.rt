@@ -197,7 +197,10 @@ fn realm_with(alloc: Global, start: RealmStart<'_>, further: Further<'_>) -> Res
     if further.words == "pkinit" {
         return realm_of(alloc, start, NO_POLICY, Some(further.digits));
     }
-    let policy = Policy { limits_des3: true };
+    let policy = Policy {
+        limits_des3: true,
+        ..NO_POLICY
+    };
     if further.words == "limits-des3,pkinit" {
         return realm_of(alloc, start, policy, Some(further.digits));
     }

@@ -21,7 +21,12 @@ use std::alloc::{AllocError, Global};
 const SUITE: CipherSuite = CipherSuite::Aes256CtsHmacSha196;
 
 /// The policy of a new realm.
-const NEW_POLICY: Policy = Policy { limits_des3: true };
+const NEW_POLICY: Policy = Policy {
+    limits_des3: true,
+    forwardable: false,
+    proxiable: false,
+    renewable_life: 0,
+};
 
 /// `create [-e SUITE] [-k [random]] TEXT REALM`: makes a text of a realm, with the key of its ticket-granting service.
 pub(crate) fn create(rt: &HostRuntime, arguments: &[String]) -> Result<(), Stop> {

@@ -212,7 +212,8 @@ further_lasting false lifetime moment part body = lasting lifetime moment (Some 
 further_lasting true lifetime moment part body =
     -- A renewed ticket ends with its renew-till, or earlier: it lasts as long as the presented one at most (RFC 4120, section 3.3.3). Test:
     -- `tgs renew`, `tgs renew, last days`, `tgs renew, no starttime` of `company_realms.txt`.
-    -- Ignored: the `till` of a request by renew (RFC 4120, section 3.3.3). Test: `tgs renew, till past`.
+    -- Ignored: the `till` of a request by renew (RFC 4120, section 3.3.3). Test: `tgs renew, till past` of
+    -- `company_realms.txt`.
     lasting_to (life_of part) moment (renew_till_of part) no_end
 
 -- the renew-till that is asked for by a renewable ticket, and none by another one

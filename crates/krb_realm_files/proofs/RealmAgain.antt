@@ -1,20 +1,19 @@
 -- The realm's record is read as it was written.
-use Rattle.std.proofs.Common.{◌≡◌, ◌==◌, ℕ, ◌+◌, ◌<◌, ◌≤◌, List, [], ◌∷◌, ◌++◌, length, length-append, drop, take, slice_index, Option, None, Some, refl, ap, ◌∙◌, arith, le-ltb, eq-eqb, ◌&&◌, nat_le, true, false, Bool, if◌then◌else◌}
+use Rattle.std.proofs.Common.{◌≡◌, ◌==◌, ℕ, ◌+◌, ◌*◌, ◌/◌, ◌%◌, ◌^◌, ◌<◌, ◌≤◌, List, [], ◌∷◌, ◌++◌, length, length-append, drop, take, slice_index, Option, None, Some, refl, ap, sym, subst, ◌∙◌, arith, le-ltb, eq-eqb, ◌&&◌, nat_le, true, false, Bool, if◌then◌else◌}
 use Rattle.std.proofs.Math.Seq.{drop-append-add, drop-append_seam, take-append_seam}
 use Rattle.std.proofs.lemmas.Bool.{le-leb, and_parts, leb-true}
-use Rattle.std.proofs.lemmas.Bool.Decides.{nat_tests}
 use Rattle.byteorder.specs.Numbers.{little_number-reads_back}
 use Rattle.byte_streams.specs.Numbers.{le32, le32_at}
 use Rattle.krb_realm_accounts.specs.Names.{is_realm_name}
 use Rattle.krb_realm_accounts.specs.Settings.{AreSettings, SettingsRecord}
 use Rattle.krb_realm_accounts.specs.declared.policy.Policy.{Policy}
-use Rattle.krb_realm_files.specs.RealmRecords.{is_pkinit, is_recorded, named_realm, pkinit_in, pkinit_octets, realm_bytes, realm_in, policy_number, policy_of, settings_of}
+use Rattle.krb_realm_files.specs.RealmRecords.{has_number, is_pkinit, is_policy, is_recorded, named_realm, number_if, pkinit_in, pkinit_octets, realm_bytes, realm_in, policy_number, policy_of, settings_of}
 use Rattle.krb_realm_files.specs.declared.realm_parameters.RealmParameters.{RealmParameters}
 
 -- Settings that are in their ranges, and others.
-pub settled : (skew lifetime policy : ℕ) → AreSettings skew lifetime → policy ≤ 1
+pub settled : (skew lifetime policy : ℕ) → AreSettings skew lifetime → is_policy policy ≡ true
     → settings_of skew lifetime policy ≡ Some (record { skew = skew; lifetime = lifetime; policy = policy_of policy })
-settled skew lifetime policy are known = rw (le-leb skew 86400 are.0, le-leb 1 lifetime are.1.0, le-leb lifetime 31536000 are.1.1, le-leb policy 1 known) refl
+settled skew lifetime policy are known = rw (le-leb skew 86400 are.0, le-leb 1 lifetime are.1.0, le-leb lifetime 31536000 are.1.1, known) refl
 
 -- Whether they are in their ranges, and the settings if they are.
 abbrev in_range : ℕ → ℕ → Bool
@@ -26,37 +25,84 @@ settings_if are skew lifetime policy = if are then Some (record { skew = skew; l
 pub unsettled : (skew lifetime policy : ℕ) → (AreSettings skew lifetime → ⊥) → None ≡ settings_of skew lifetime policy
 unsettled skew lifetime policy none = by (in_range skew lifetime) refl
   where
-    by : (are : Bool) → in_range skew lifetime ≡ are → None ≡ settings_if (are && nat_le policy 1) skew lifetime policy
+    by : (are : Bool) → in_range skew lifetime ≡ are → None ≡ settings_if (are && is_policy policy) skew lifetime policy
     by true e =
         let first = and_parts (nat_le skew 86400 && nat_le 1 lifetime) (nat_le lifetime 31536000) e in
         let second = and_parts (nat_le skew 86400) (nat_le 1 lifetime) first.0 in
         absurd (none (leb-true skew 86400 second.0, (leb-true 1 lifetime second.1, leb-true lifetime 31536000 first.1)))
     by false e = refl
 
--- No policy has a greater number.
-pub unknown_policy : (skew lifetime policy : ℕ) → 1 < policy → None ≡ settings_of skew lifetime policy
-unknown_policy skew lifetime policy great =
-    let over : nat_le policy 1 ≡ false = grind (arith, nat_tests) in
-    rw over (by (in_range skew lifetime))
+-- No policy has another number.
+pub unknown_policy : (skew lifetime policy : ℕ) → is_policy policy ≡ false → None ≡ settings_of skew lifetime policy
+unknown_policy skew lifetime policy other = rw other (by (in_range skew lifetime))
   where
     by : (are : Bool) → None ≡ settings_if (are && false) skew lifetime policy
     by true = refl
     by false = refl
 
 -- The policy is read as it was written.
-number_again : (limits : Bool) → ((if limits then 1 else 0) == 1) ≡ limits
-number_again true = refl
-number_again false = refl
+one_if : Bool → ℕ
+one_if is = number_if is 1
+
+one_most : (is : Bool) → one_if is ≤ 1
+one_most true = omega arith
+one_most false = omega arith
+
+twice : (is : Bool) → number_if is 2 ≡ 2 * one_if is
+twice true = refl
+twice false = refl
+
+four_times : (is : Bool) → number_if is 4 ≡ 4 * one_if is
+four_times true = refl
+four_times false = refl
+
+bit_is : (is : Bool) (bit : ℕ) → bit ≡ one_if is → (bit == 1) ≡ is
+bit_is true bit e = eq-eqb bit 1 e
+bit_is false bit e = subst (λ b. (b == 1) ≡ false) (sym e) refl
+
+module _ (limits forwardable proxiable : Bool) (life : ℕ) where
+  abbrev added : ℕ
+  added = number_if limits 1 + number_if forwardable 2 + number_if proxiable 4 + life * 16
+
+  added_is : added ≡ one_if limits + 2 * one_if forwardable + 4 * one_if proxiable + life * 16
+  added_is = omega (arith, twice forwardable, four_times proxiable)
+
+  first_bit : added / 1 % 2 ≡ one_if limits
+  first_bit = omega (arith, added_is, one_most limits, one_most forwardable, one_most proxiable)
+
+  second_bit : added / 2 % 2 ≡ one_if forwardable
+  second_bit = omega (arith, added_is, one_most limits, one_most forwardable, one_most proxiable)
+
+  third_bit : added / 4 % 2 ≡ one_if proxiable
+  third_bit = omega (arith, added_is, one_most limits, one_most forwardable, one_most proxiable)
+
+  no_fourth : added / 8 % 2 ≡ 0
+  no_fourth = omega (arith, added_is, one_most limits, one_most forwardable, one_most proxiable)
+
+  seconds_left : added / 16 ≡ life
+  seconds_left = omega (arith, added_is, one_most limits, one_most forwardable, one_most proxiable)
+
+  few_added : life ≤ 31536000 → added < 2 ^ 32
+  few_added few = omega (arith, added_is, few, one_most limits, one_most forwardable, one_most proxiable)
 
 policy_again : (policy : Policy) → policy_of (policy_number policy) ≡ policy
-policy_again policy = λ i. record { limits_des3 = number_again policy.limits_des3 i }
+policy_again policy = λ i. record {
+  limits_des3 = bit_is policy.limits_des3 (policy_number policy / 1 % 2) (first_bit policy.limits_des3 policy.forwardable policy.proxiable policy.renewable_life) i;
+  forwardable = bit_is policy.forwardable (policy_number policy / 2 % 2) (second_bit policy.limits_des3 policy.forwardable policy.proxiable policy.renewable_life) i;
+  proxiable = bit_is policy.proxiable (policy_number policy / 4 % 2) (third_bit policy.limits_des3 policy.forwardable policy.proxiable policy.renewable_life) i;
+  renewable_life = seconds_left policy.limits_des3 policy.forwardable policy.proxiable policy.renewable_life i;
+}
 
-policy_small : (policy : Policy) → policy_number policy ≤ 1
-policy_small policy = by policy.limits_des3
-  where
-    by : (limits : Bool) → (if limits then 1 else 0) ≤ 1
-    by true = omega arith
-    by false = omega arith
+policy_known : (policy : Policy) → has_number policy ≡ true → is_policy (policy_number policy) ≡ true
+policy_known policy is =
+    let life : ℕ = policy.renewable_life in
+    let few : life ≤ 31536000 = leb-true life 31536000 is in
+    let seconds : policy_number policy / 16 ≡ life = seconds_left policy.limits_des3 policy.forwardable policy.proxiable life in
+    rw (eq-eqb (policy_number policy / 8 % 2) 0 (no_fourth policy.limits_des3 policy.forwardable policy.proxiable life), le-leb (policy_number policy / 16) 31536000 (omega (arith, seconds, few))) refl
+
+policy_small : (policy : Policy) → has_number policy ≡ true → policy_number policy < 2 ^ 32
+policy_small policy is =
+    few_added policy.limits_des3 policy.forwardable policy.proxiable policy.renewable_life (leb-true policy.renewable_life 31536000 is)
 
 -- What logins by certificate are answered by is read as it was written, and fits the record.
 pkinit_again : (pkinit : Option (List ℕ)) → is_pkinit pkinit ≡ true → pkinit_in (pkinit_octets pkinit) ≡ pkinit
@@ -90,15 +136,17 @@ realm_as_written realm is are =
     let lifetime : ℕ = realm.settings.lifetime in
     let own : List ℕ = pkinit_octets realm.pkinit in
     let size : ℕ = length own in
-    let both = and_parts (is_realm_name realm.name) (is_pkinit realm.pkinit) is in
+    let three = and_parts (is_realm_name realm.name && is_pkinit realm.pkinit) (has_number realm.settings.policy) is in
+    let both = and_parts (is_realm_name realm.name) (is_pkinit realm.pkinit) three.0 in
     let few : size ≤ 7920 = pkinit_few realm.pkinit both.1 in
     let policy : ℕ = policy_number realm.settings.policy in
-    let known : policy ≤ 1 = policy_small realm.settings.policy in
+    let small : policy < 2 ^ 32 = policy_small realm.settings.policy three.1 in
+    let known : is_policy policy ≡ true = policy_known realm.settings.policy three.1 in
     let front : List ℕ = 1 ∷ (le32 skew ++ (le32 lifetime ++ (le32 size ++ le32 policy))) in
     let long : length (realm_bytes realm) ≡ 17 + length (own ++ realm.name) = length-append front (own ++ realm.name) in
     whole (realm_bytes realm) realm.name own skew lifetime size policy (omega (arith, long, length-append own realm.name)) refl
     (little_number-reads_back 4 size (le32 policy ++ (own ++ realm.name)) (omega (arith, few)))
-    (little_number-reads_back 4 policy (own ++ realm.name) (omega (arith, known)))
+    (little_number-reads_back 4 policy (own ++ realm.name) (omega (arith, small)))
     (little_number-reads_back 4 skew (le32 lifetime ++ (le32 size ++ (le32 policy ++ (own ++ realm.name)))) (omega (arith, are.0)))
     (little_number-reads_back 4 lifetime (le32 size ++ (le32 policy ++ (own ++ realm.name))) (omega (arith, are.1.1)))
     (behind front own realm.name) (between front own realm.name)

@@ -1,27 +1,43 @@
 -- The record of the realm: octet 0 the version, octets 1 to 4 the clock skew and octets 5 to 8 the greatest lifetime of a ticket, both in
 -- seconds, octets 9 to 12 how many octets logins by certificate are answered by, octets 13 to 16 the policy, then those octets, and the
 -- realm's name up to the end. Of each number the lowest octet is the first. Without such octets no login by certificate is answered.
--- The policy is 0 where none is set, and 1 where it limits session keys of triple DES.
-use Rattle.std.specs.Prelude.{ℕ, ◌+◌, ◌==◌, ◌||◌, ◌&&◌, nat_le, nat_lt, not, Bool, true, List, [], ◌∷◌, ◌++◌, length, drop, take, slice_index, Option, None, Some, if◌then◌else◌}
+-- The policy is 0 where none is set: 1 where it limits session keys of triple DES, 2 where tickets are forwardable, 4 where they are
+-- proxiable, and 16 for each second of the greatest renewable life, added up.
+use Rattle.std.specs.Prelude.{ℕ, ◌+◌, ◌*◌, ◌/◌, ◌%◌, ◌==◌, ◌||◌, ◌&&◌, nat_le, nat_lt, not, Bool, true, List, [], ◌∷◌, ◌++◌, length, drop, take, slice_index, Option, None, Some, if◌then◌else◌}
 use Rattle.byte_streams.specs.Numbers.{le32, le32_at}
 use Rattle.krb_realm_accounts.specs.Names.{is_realm_name}
 use Rattle.krb_realm_accounts.specs.Settings.{SettingsRecord}
 use Rattle.krb_realm_accounts.specs.declared.policy.Policy.{Policy}
 use Rattle.krb_realm_accounts.specs.declared.settings.TheConstants.{LIFETIME_LIMIT, SKEW_LIMIT}
-use Rattle.krb_realm_files.specs.declared.format.TheConstants.{LIMITS_DES3, PKINIT_ROOM, REALM_HEAD, RECORD_VERSION}
+use Rattle.krb_realm_files.specs.declared.format.TheConstants.{FORWARDABLE, LIMITS_DES3, PKINIT_ROOM, PROXIABLE, REALM_HEAD, RECORD_VERSION, RENEWABLE_SECOND}
 use Rattle.krb_realm_files.specs.declared.realm_parameters.RealmParameters.{RealmParameters}
 
--- The policy of a number, and the number of a policy.
+-- The policy of a number.
 abbrev pub policy_of : ℕ → Policy
-policy_of number = record { limits_des3 = number == LIMITS_DES3 }
+policy_of number = record {
+  limits_des3 = number / LIMITS_DES3 % 2 == 1;
+  forwardable = number / FORWARDABLE % 2 == 1;
+  proxiable = number / PROXIABLE % 2 == 1;
+  renewable_life = number / RENEWABLE_SECOND;
+}
 
+-- The number is a policy's: it hasn't 8, and the greatest renewable life is a year at most.
+abbrev pub is_policy : ℕ → Bool
+is_policy number = (number / 8 % 2 == 0) && nat_le (number / RENEWABLE_SECOND) LIFETIME_LIMIT
+
+-- What a number has for something that is so or isn't.
+abbrev pub number_if : Bool → ℕ → ℕ
+number_if is number = if is then number else 0
+
+-- The number of a policy.
 abbrev pub policy_number : Policy → ℕ
-policy_number policy = if policy.limits_des3 then LIMITS_DES3 else 0
+policy_number policy =
+    number_if policy.limits_des3 LIMITS_DES3 + number_if policy.forwardable FORWARDABLE + number_if policy.proxiable PROXIABLE + policy.renewable_life * RENEWABLE_SECOND
 
 -- The settings of this clock skew, this greatest lifetime and the policy of this number, if all are in their ranges.
 abbrev pub settings_of : ℕ → ℕ → ℕ → Option SettingsRecord
 settings_of skew lifetime policy =
-    if nat_le skew SKEW_LIMIT && nat_le 1 lifetime && nat_le lifetime LIFETIME_LIMIT && nat_le policy LIMITS_DES3
+    if nat_le skew SKEW_LIMIT && nat_le 1 lifetime && nat_le lifetime LIFETIME_LIMIT && is_policy policy
     then Some (record { skew = skew; lifetime = lifetime; policy = policy_of policy }) else None
 
 -- What logins by certificate are answered by, if there are octets.
@@ -57,6 +73,10 @@ unfoldable pub realm_bytes : RealmParameters → List ℕ
 realm_bytes realm =
     RECORD_VERSION ∷ (le32 realm.settings.skew ++ (le32 realm.settings.lifetime ++ (le32 (length (pkinit_octets realm.pkinit)) ++ (le32 (policy_number realm.settings.policy) ++ (pkinit_octets realm.pkinit ++ realm.name)))))
 
--- The realm has a record: its name is one of a realm, and the octets have room.
+-- The policy has a number: its greatest renewable life is a year at most.
+abbrev pub has_number : Policy → Bool
+has_number policy = nat_le policy.renewable_life LIFETIME_LIMIT
+
+-- The realm has a record: its name is one of a realm, the octets have room, and the policy has a number.
 abbrev pub is_recorded : RealmParameters → Bool
-is_recorded realm = is_realm_name realm.name && is_pkinit realm.pkinit
+is_recorded realm = is_realm_name realm.name && is_pkinit realm.pkinit && has_number realm.settings.policy

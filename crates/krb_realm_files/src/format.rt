@@ -10,8 +10,17 @@ pub const ACCOUNT_HEAD: usize = 7;
 /// certificate are answered by, and the policy.
 pub const REALM_HEAD: usize = 17;
 
-/// The policy that limits session keys of triple DES, as the realm's record has it. No policy is 0, and no other number is one.
+/// What the number of a policy in the realm's record has for limited session keys of triple DES. No policy is 0.
 pub const LIMITS_DES3: u32 = 1;
+
+/// What it has for forwardable tickets.
+pub const FORWARDABLE: u32 = 2;
+
+/// What it has for proxiable tickets.
+pub const PROXIABLE: u32 = 4;
+
+/// What it has for each second of the greatest renewable life. No policy has the number 8 between.
+pub const RENEWABLE_SECOND: u32 = 16;
 
 /// How many octets a record has at most: enough for the salt of a name of 16 components and of a realm's name, each of 255 characters.
 pub const RECORD_ROOM: usize = 8_192;

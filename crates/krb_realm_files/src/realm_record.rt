@@ -1,14 +1,16 @@
 //! The record of the realm.
-ghost use Rattle.std.specs.Prelude.{◌≡◌, Some, IfOk, IsTrue};
+ghost use Rattle.std.specs.Prelude.{◌≡◌, ◌≤◌, Some, IfOk, IsTrue};
 ghost use Rattle.std.specs.Option.{option_copied};
-ghost use Rattle.krb_realm_files.specs.RealmRecords.{is_pkinit, named_realm, pkinit_in, pkinit_octets, policy_number, realm_bytes, realm_in, settings_of};
+ghost use Rattle.krb_realm_files.specs.RealmRecords.{has_number, is_pkinit, is_policy, named_realm, number_if, pkinit_in, pkinit_octets, policy_number, policy_of, realm_bytes, realm_in, settings_of};
 ghost use Rattle.krb_realm_files.specs.Reading.{IsReadAs};
 
 use crate::fault::RecordFault;
-use crate::format::{LIMITS_DES3, PKINIT_ROOM, REALM_HEAD, RECORD_VERSION};
+use crate::format::{
+    FORWARDABLE, LIMITS_DES3, PKINIT_ROOM, PROXIABLE, REALM_HEAD, RECORD_VERSION, RENEWABLE_SECOND,
+};
 use crate::realm_parameters::RealmParameters;
 use byte_streams::{u32_le, u32_le_bytes};
-use krb_realm_accounts::{Policy, RealmRefusal, Settings, realm_name_of};
+use krb_realm_accounts::{LIFETIME_LIMIT, Policy, RealmRefusal, Settings, realm_name_of};
 use picky_asn1::wrapper::OctetStringAsn1;
 use std::alloc::{AllocError, Global};
 
@@ -49,23 +51,58 @@ fn pkinit_in(alloc: Global, octets: &[u8]) -> Result<Option<OctetStringAsn1>, Al
 fn settings_of(skew: u64, lifetime: u64, policy: u32) -> Option<Settings>
     ensures { result ≡ settings_of skew lifetime policy }
 {
-    let known = Policy {
-        limits_des3: policy == LIMITS_DES3,
-    };
-    let Ok(settings) = Settings::of_policy(skew, lifetime, known) else {
+    let Ok(settings) = Settings::of_policy(skew, lifetime, policy_of(policy)) else {
         return None;
     };
-    if LIMITS_DES3 < policy {
+    if !is_policy(policy) {
         return None;
     }
     Some(settings)
 }
 
+// Returns the policy of a number.
+fn policy_of(number: u32) -> Policy
+    ensures { result ≡ policy_of number }
+{
+    Policy {
+        limits_des3: number / LIMITS_DES3 % 2 == 1,
+        forwardable: number / FORWARDABLE % 2 == 1,
+        proxiable: number / PROXIABLE % 2 == 1,
+        renewable_life: number / RENEWABLE_SECOND,
+    }
+}
+
+// Returns whether the number is a policy's.
+fn is_policy(number: u32) -> bool
+    ensures { result ≡ is_policy number }
+{
+    number / 8 % 2 == 0 && u64::from(number / RENEWABLE_SECOND) <= LIFETIME_LIMIT
+}
+
+/// Returns whether the policy has a number: its greatest renewable life is a year at most.
+pub(crate) fn has_number(policy: Policy) -> bool
+    ensures { result ≡ has_number policy }
+{
+    u64::from(policy.renewable_life) <= LIFETIME_LIMIT
+}
+
 // Returns the number of a policy.
 fn policy_number(policy: Policy) -> u32
+    requires { policy.renewable_life ≤ 31536000 }
     ensures { result ≡ policy_number policy }
 {
-    if policy.limits_des3 { LIMITS_DES3 } else { 0 }
+    number_if(policy.limits_des3, LIMITS_DES3)
+        + number_if(policy.forwardable, FORWARDABLE)
+        + number_if(policy.proxiable, PROXIABLE)
+        + policy.renewable_life * RENEWABLE_SECOND
+}
+
+// Returns what a number has for something that is so or isn't.
+fn number_if(is: bool, number: u32) -> u32
+    ensures value { result ≡ number_if is number }
+    ensures at_most { result ≤ number }
+{
+    if is { number } else { 0 }
 }
 
 // Returns the realm of this name, these settings and these octets, if the name may be a realm's.
@@ -114,7 +151,8 @@ fn pkinit_octets(pkinit: &Option<OctetStringAsn1>) -> &[u8]
 /// Returns the record of a realm. It fails only if memory runs out.
 #[tactic(auto, unfolding(crate::specs::RealmRecords::realm_bytes))]
 pub fn realm_bytes(alloc: Global, realm: &RealmParameters) -> Result<Vec<u8>, AllocError>
-    requires { IsTrue (is_pkinit realm.now.pkinit) }
+    requires pkinit { IsTrue (is_pkinit realm.now.pkinit) }
+    requires policy { IsTrue (has_number realm.now.settings.policy) }
     ensures { IfOk result (λ bytes. bytes.items ≡ realm_bytes realm.now) }
 {
     let mut bytes = vec![in alloc; RECORD_VERSION]?;

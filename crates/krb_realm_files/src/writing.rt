@@ -13,7 +13,7 @@ use crate::account_record::account_bytes;
 use crate::format::{REALM_KEY, RECORD_ROOM};
 use crate::laws::{account_as_written, realm_as_written};
 use crate::realm_parameters::RealmParameters;
-use crate::realm_record::{is_pkinit, realm_bytes};
+use crate::realm_record::{has_number, is_pkinit, realm_bytes};
 use arrayvec::ArrayVec;
 use cdb::{Record, WriteFault, write};
 use krb_realm_accounts::{Account, BLOCK_ROOM, COMPONENT_LIMIT, is_realm_name};
@@ -136,7 +136,8 @@ fn account_reads_again(account: &Account)
 }
 
 /// Returns the record of the realm. It comes after those of the accounts, since its key does. It refuses as `Unsound` only if the
-/// realm's name is none of a realm or logins by certificate are answered by none or too many octets, and as `Memory` if memory runs out.
+/// realm's name is none of a realm, logins by certificate are answered by none or too many octets, or the policy's renewable life is more
+/// than a year, and as `Memory` if memory runs out.
 pub fn record_of_realm(alloc: Global, realm: &RealmParameters) -> Result<Record, WriteFault>
     ensures made { IfOk result (λ r. IsRealmRecord realm.now r) }
     ensures refusal { IfErr result (λ e. (e ≡ WriteFault.Memory) ⊎ ((e ≡ WriteFault.Unsound) × (is_recorded realm.now ≡ false))) }
@@ -154,7 +155,9 @@ pub fn record_of_realm(alloc: Global, realm: &RealmParameters) -> Result<Record,
 fn is_recorded(realm: &RealmParameters) -> bool
     ensures { result ≡ is_recorded realm.now }
 {
-    is_realm_name(realm.name.as_bytes()) && is_pkinit(&realm.pkinit)
+    is_realm_name(realm.name.as_bytes())
+        && is_pkinit(&realm.pkinit)
+        && has_number(realm.settings.policy())
 }
 
 // Returns the key of the realm's record.

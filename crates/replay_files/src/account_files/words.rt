@@ -3,7 +3,7 @@
 use anyhow::Context;
 use cdb::ReadAt;
 use krb_kdc::{Lookup, LookupFault, LookupRefusal, Unobserved};
-use krb_realm_accounts::Account;
+use krb_realm_accounts::{Account, Policy};
 use krb_realm_files::{AccountFile, RealmParameters, answer_from, realm_of};
 use krb_time::Moment;
 use picky_asn1::wrapper::{GeneralStringAsn1, OctetStringAsn1};
@@ -65,12 +65,20 @@ fn words_of_realm(alloc: Global, realm: &RealmParameters) -> anyhow::Result<Stri
     let skew = realm.settings.skew();
     let lifetime = realm.settings.lifetime();
     let pkinit = octets_word(alloc, realm.pkinit.as_ref())?;
-    let policy = if realm.settings.policy().limits_des3 {
-        " limits-des3"
-    } else {
-        ""
-    };
+    let policy = policy_words(alloc, realm.settings.policy())?;
     Ok(format!(in alloc; "{name} {skew} {lifetime} {pkinit}{policy}")?)
+}
+
+/// Returns the words for a policy, each behind a space. There is none where no policy is set.
+fn policy_words(alloc: Global, policy: Policy) -> anyhow::Result<String> {
+    let limits = if policy.limits_des3 { " limits-des3" } else { "" };
+    let forwardable = if policy.forwardable { " forwardable" } else { "" };
+    let proxiable = if policy.proxiable { " proxiable" } else { "" };
+    let life = policy.renewable_life;
+    if life == 0 {
+        return Ok(format!(in alloc; "{limits}{forwardable}{proxiable}")?);
+    }
+    Ok(format!(in alloc; "{limits}{forwardable}{proxiable} renewable={life}")?)
 }
 
 /// Returns the words for the account that a file says.
