@@ -150,6 +150,7 @@ module _ (call : CallRecord) (rows : PkinitRows) (of_client of_service : Option 
           client = client_fits n request.req_body.0 body principals.client_name these.client_name;
           service = service_fits n request.req_body.0 body principals.service_name these.service_name;
           nonce = nonce_fits n request.req_body.0 body;
+          addresses = λ list e. absurd (cc (e));
         }) As
 
     has_grant : (principals : Principals) → (header_rows 10 call.realm refused request).gives (Ok tt) → AreAsked principals → HasOutcome (to_be_possible principals)

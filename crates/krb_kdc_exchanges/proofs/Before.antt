@@ -33,7 +33,7 @@ use Rattle.krb_kdc_exchanges.specs.Options.{asked_options, has_option_beyond}
 use Rattle.krb_kdc_exchanges.specs.Renewals.{IsTill, asked_till, granted_till, renew_till_of}
 use Rattle.krb_kdc_exchanges.specs.Requests.{client_of, has_refused_option, header_rows, lasting, service_of}
 use Rattle.krb_kdc_exchanges.specs.Rows.{PkinitRows}
-use Rattle.krb_kdc_exchanges.specs.TgsTable.{authenticated_near, carried, covered, first_granted, further, further_asked, further_by, further_grant, further_in, further_replied, granted_flags, has_account, reply_key, subkey_in, tgs_table, ticket_granting}
+use Rattle.krb_kdc_exchanges.specs.TgsTable.{authenticated_near, carried, covered, first_granted, further, further_addresses, further_asked, further_by, further_grant, further_in, further_replied, granted_flags, has_account, reply_key, subkey_in, tgs_table, ticket_granting}
 use Rattle.krb_kdc_exchanges.specs.declared.options.AskedOptions.{AskedOptions}
 use Rattle.krb_kdc_exchanges.specs.declared.span.Span.{Span}
 use Rattle.krb_kdc_exchanges.proofs.TgsInvolved.{same_need, same_then}
@@ -182,7 +182,10 @@ module _ (own : CallRecord) (request : KdcReq) (r : Result (List ℕ) ℕ) where
 
   module _ (part : EncTicketPartInner) (shown : Authenticated) (name : PrincipalName) (service : AccountRecord) where
     same_further_grant : (suite : CipherSuite) (span : Span) → further_grant call part name suite body span None ≡ plain_further call part name suite body span
-    same_further_grant suite span = λ i. record (plain_further call part name suite body span) { flags = same_further_flags part body i }
+    same_further_grant suite span = λ i. record (plain_further call part name suite body span) {
+      flags = same_further_flags part body i;
+      addresses = further_addresses (none_asked body.kdc_options.0 i) body;
+    }
 
     abbrev key : Option ReplyKeyRecord
     key = reply_key shown.suite part.key.0.key_value.0 (subkey_in shown.authenticator)

@@ -1,8 +1,8 @@
 -- The encodings of what a ticket's part and a reply's part hold are bytes, where names, realm and nonce are short.
-use Rattle.std.proofs.Common.{◌<◌, ℕ, ◌+◌, ◌^◌, List, [], ◌∷◌, Option, None, Some, arith}
+use Rattle.std.proofs.Common.{◌≡◌, ◌<◌, ℕ, ◌+◌, ◌-◌, ◌^◌, List, [], ◌∷◌, Option, None, Some, refl, arith}
 use Rattle.std.specs.Prelude.{ℤ, pos}
 use Rattle.asn1_der.specs.Tagged.{tagged_tree}
-use Rattle.asn1_der.specs.Tree.{Tree, Trees, constructed, leaf, more, none, primitive, put, wrapped}
+use Rattle.asn1_der.specs.Tree.{Tree, Trees, constructed, leaf, more, none, primitive, put, trees_of, wrapped}
 use Rattle.asn1_leaves.specs.CharSets.{is_general_string}
 use Rattle.asn1_leaves.specs.declared.date.GeneralizedTime.{GeneralizedTime}
 use Rattle.asn1_leaves.specs.GeneralizedTime.{time_text}
@@ -11,10 +11,12 @@ use Rattle.krb_crypto.specs.declared.suite.CipherSuite.{CipherSuite}
 use Rattle.krb_crypto.specs.Suites.{cipher_number}
 use Rattle.krb_crypto.proofs.AllSuites.{number_below}
 use Rattle.krb_messages.specs.declared.data_types.encryption_key.EncryptionKey.{EncryptionKey}
+use Rattle.krb_messages.specs.declared.data_types.host_address.HostAddress.{HostAddress}
 use Rattle.krb_messages.specs.declared.data_types.principal_name.PrincipalName.{PrincipalName}
 use Rattle.krb_messages.specs.contracts.data_types.encryption_key.EncryptionKeyTagged.TheImpl as encryption_key_impl
+use Rattle.krb_messages.specs.contracts.data_types.host_address.HostAddressTagged.TheImpl as host_address_impl
 use Rattle.krb_messages.specs.contracts.data_types.principal_name.PrincipalNameTagged.TheImpl as principal_name_impl
-use Rattle.krb_tickets.specs.Parts.{tagged_till}
+use Rattle.krb_tickets.specs.Parts.{tagged_addresses, tagged_till}
 use Rattle.krb_tickets.specs.Sealing.{encryption_key}
 use Rattle.krb_kdc_exchanges.proofs.Short.{AllFit, Fits, IsShort, fits_constructed, fits_primitive, fits_wrapped, looser, looser_all, more_trees, no_trees, number_short, one_tree, short_cons, short_none, time_short}
 
@@ -23,6 +25,12 @@ principal_name_tree = tagged_tree 48 principal_name_impl.ghosts.row_tree princip
 
 abbrev pub encryption_key_tree : EncryptionKey → Tree
 encryption_key_tree = tagged_tree 48 encryption_key_impl.ghosts.row_tree encryption_key_impl.ghosts.row_of
+
+abbrev pub host_address_tree : HostAddress → Tree
+host_address_tree = tagged_tree 48 host_address_impl.ghosts.row_tree host_address_impl.ghosts.row_of
+
+abbrev pub addresses_tree : List HostAddress → Tree
+addresses_tree addresses = constructed 48 (trees_of host_address_tree addresses)
 
 abbrev pub realm_tree : List ℕ → Tree
 realm_tree realm = leaf (is_general_string realm) 27 realm
@@ -83,6 +91,14 @@ till_fits : (m : ℕ) (rest : Trees) → AllFit m rest → (till : Option Genera
 till_fits m rest x None = looser_all m (37 + m) rest (omega arith) x
 till_fits m rest x (Some time) = more_trees 37 m (wrapped 168 (time_tree time)) rest (time_fits 168 time (omega arith)) x
 
+-- caddr under its tag, if there are addresses, before further fields
+addresses_fit : (n first m : ℕ) (rest : Trees) → first < 256 → n < 2 ^ 64 → AllFit m rest → (addresses : Option (List HostAddress))
+    → ((list : List HostAddress) → addresses ≡ Some list → Fits n (addresses_tree list))
+    → AllFit (n + 11 + m) (put (λ tagged. wrapped first (addresses_tree tagged.0)) (tagged_addresses {tag = first - 160} addresses) rest)
+addresses_fit n first m rest fits few x None own = looser_all m (n + 11 + m) rest (omega arith) x
+addresses_fit n first m rest fits few x (Some list) own =
+    more_trees (n + 11) m (wrapped first (addresses_tree list)) rest (fits_wrapped n first (addresses_tree list) fits (omega arith) (own list refl)) x
+
 -- a session's key is short, and realm and name are
 pub record AreFit (n : ℕ) (session realm : List ℕ) (name : PrincipalName) : Type 0 where
   pub few : n < 2 ^ 64
@@ -91,7 +107,7 @@ pub record AreFit (n : ℕ) (session realm : List ℕ) (name : PrincipalName) : 
   pub name_tree : Fits n (principal_name_tree name)
 
 module _ (n : ℕ) (suite : CipherSuite) (session realm : List ℕ) (name : PrincipalName) (fit : AreFit n session realm name) (front octet : ℕ) (low : front < 256) (flags : octet < 256) (auth starttime endtime : GeneralizedTime)
-    (till : Option GeneralizedTime) where
+    (till : Option GeneralizedTime) (addresses : Option (List HostAddress)) (own : (list : List HostAddress) → addresses ≡ Some list → Fits n (addresses_tree list)) where
   -- the part under the service's key
   abbrev pub ticket_tree : Tree
   ticket_tree =
@@ -105,13 +121,14 @@ module _ (n : ℕ) (suite : CipherSuite) (session realm : List ℕ) (name : Prin
       (more (wrapped 165 (time_tree auth))
       (more (wrapped 166 (time_tree starttime))
       (more (wrapped 167 (time_tree endtime))
-      (put (λ tagged. wrapped 168 (time_tree tagged.0.0)) (tagged_till till) none))))))))))
+      (put (λ tagged. wrapped 168 (time_tree tagged.0.0)) (tagged_till till)
+      (put (λ tagged. wrapped 169 (addresses_tree tagged.0)) (tagged_addresses {tag = 9} addresses) none)))))))))))
 
-  pub ticket_fits : Fits (n + n + 391) ticket_tree
+  pub ticket_fits : Fits (n + n + n + 402) ticket_tree
   ticket_fits =
       let few : n < 2 ^ 64 = fit.few in
-      looser (27 + (102 + ((n + 11) + ((n + 11) + (70 + (37 + (37 + (37 + (37 + 0)))))))) + 22) (n + n + 391) _ (omega arith)
-      (sequence_fits (27 + (102 + ((n + 11) + ((n + 11) + (70 + (37 + (37 + (37 + (37 + 0))))))))) 99 _ (omega arith) (omega arith)
+      looser (27 + (102 + ((n + 11) + ((n + 11) + (70 + (37 + (37 + (37 + (37 + (n + 11 + 0))))))))) + 22) (n + n + n + 402) _ (omega arith)
+      (sequence_fits (27 + (102 + ((n + 11) + ((n + 11) + (70 + (37 + (37 + (37 + (37 + (n + 11 + 0)))))))))) 99 _ (omega arith) (omega arith)
       (more_trees 27 _ _ _ (flags_fit 160 front octet (omega arith) low flags)
       (more_trees 102 _ _ _ (key_fits 161 suite session (omega arith) fit.session_key)
       (more_trees (n + 11) _ _ _ (fits_wrapped n 162 (realm_tree realm) (omega arith) (omega arith) fit.realm_name)
@@ -119,8 +136,8 @@ module _ (n : ℕ) (suite : CipherSuite) (session realm : List ℕ) (name : Prin
       (more_trees 70 _ _ _ no_realms_fit
       (more_trees 37 _ _ _ (time_fits 165 auth (omega arith))
       (more_trees 37 _ _ _ (time_fits 166 starttime (omega arith))
-      (more_trees 37 (37 + 0) _ _ (time_fits 167 endtime (omega arith))
-      (till_fits 0 none no_trees till))))))))))
+      (more_trees 37 (37 + (n + 11 + 0)) _ _ (time_fits 167 endtime (omega arith))
+      (till_fits (n + 11 + 0) _ (addresses_fit n 169 0 none (omega arith) few no_trees addresses own) till))))))))))
 
   -- the part under the reply key
   module _ (first : ℕ) (fits : first < 256) (nonce : ℤ) (nonce_fits : Fits n (integer_tree nonce)) where
@@ -137,13 +154,14 @@ module _ (n : ℕ) (suite : CipherSuite) (session realm : List ℕ) (name : Prin
         (more (wrapped 167 (time_tree endtime))
         (put (λ tagged. wrapped 168 (time_tree tagged.0.0)) (tagged_till till)
         (more (wrapped 169 (realm_tree realm))
-        (more (wrapped 170 (principal_name_tree name)) none)))))))))))
+        (more (wrapped 170 (principal_name_tree name))
+        (put (λ tagged. wrapped 171 (addresses_tree tagged.0)) (tagged_addresses {tag = 11} addresses) none))))))))))))
 
-    pub reply_fits : Fits (n + n + n + 428) reply_tree
+    pub reply_fits : Fits (n + n + n + n + 439) reply_tree
     reply_fits =
         let few : n < 2 ^ 64 = fit.few in
-        looser (102 + (96 + ((n + 11) + (27 + (37 + (37 + (37 + (37 + ((n + 11) + (n + 11))))))))) + 22) (n + n + n + 428) _ (omega arith)
-        (sequence_fits (102 + (96 + ((n + 11) + (27 + (37 + (37 + (37 + (37 + ((n + 11) + (n + 11)))))))))) first _ fits (omega arith)
+        looser (102 + (96 + ((n + 11) + (27 + (37 + (37 + (37 + (37 + ((n + 11) + ((n + 11) + (n + 11 + 0)))))))))) + 22) (n + n + n + n + 439) _ (omega arith)
+        (sequence_fits (102 + (96 + ((n + 11) + (27 + (37 + (37 + (37 + (37 + ((n + 11) + ((n + 11) + (n + 11 + 0))))))))))) first _ fits (omega arith)
         (more_trees 102 _ _ _ (key_fits 160 suite session (omega arith) fit.session_key)
         (more_trees 96 _ _ _ (last_fits starttime)
         (more_trees (n + 11) _ _ _ (fits_wrapped n 162 (integer_tree nonce) (omega arith) (omega arith) nonce_fits)
@@ -151,6 +169,7 @@ module _ (n : ℕ) (suite : CipherSuite) (session realm : List ℕ) (name : Prin
         (more_trees 37 _ _ _ (time_fits 165 auth (omega arith))
         (more_trees 37 _ _ _ (time_fits 166 starttime (omega arith))
         (more_trees 37 _ _ _ (time_fits 167 endtime (omega arith))
-        (till_fits ((n + 11) + (n + 11)) _
-        (more_trees (n + 11) (n + 11) _ _ (fits_wrapped n 169 (realm_tree realm) (omega arith) (omega arith) fit.realm_name)
-        (one_tree (n + 11) _ (fits_wrapped n 170 (principal_name_tree name) (omega arith) (omega arith) fit.name_tree))) till)))))))))
+        (till_fits ((n + 11) + ((n + 11) + (n + 11 + 0))) _
+        (more_trees (n + 11) _ _ _ (fits_wrapped n 169 (realm_tree realm) (omega arith) (omega arith) fit.realm_name)
+        (more_trees (n + 11) (n + 11 + 0) _ _ (fits_wrapped n 170 (principal_name_tree name) (omega arith) (omega arith) fit.name_tree)
+        (addresses_fit n 171 0 none (omega arith) few no_trees addresses own))) till)))))))))

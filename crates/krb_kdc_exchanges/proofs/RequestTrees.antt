@@ -6,6 +6,7 @@ use Rattle.asn1_der.specs.Tree.{Tree, Trees, constructed, more, none, put, trees
 use Rattle.picky_asn1.specs.Numbers.{is_number}
 use Rattle.picky_asn1_der.specs.declared.wrapper.ExplicitContextTag.{ExplicitContextTag}
 use Rattle.krb_messages.specs.Trees.{pa_data_tree}
+use Rattle.krb_messages.specs.declared.data_types.host_address.HostAddress.{HostAddress}
 use Rattle.krb_messages.specs.declared.data_types.pa_data.PaData.{PaData}
 use Rattle.krb_messages.specs.declared.data_types.principal_name.PrincipalName.{PrincipalName}
 use Rattle.krb_messages.specs.MessageTrees.{kdc_req_body_tree, kdc_req_inner_tree}
@@ -13,7 +14,7 @@ use Rattle.krb_messages.specs.declared.messages.kdc_req.KdcReq.{KdcReq}
 use Rattle.krb_messages.specs.declared.messages.kdc_req_body.KdcReqBody.{KdcReqBody}
 use Rattle.krb_messages.specs.Padata.{first_padata, first_of}
 use Rattle.krb_kdc_exchanges.proofs.Short.{AllFit, Fits, IsShort, behind_optional, content_of, head, in_tag, in_wrapped, inside, looser_all, no_trees, tail}
-use Rattle.krb_kdc_exchanges.proofs.PartTrees.{integer_tree, principal_name_tree, realm_tree, time_tree}
+use Rattle.krb_kdc_exchanges.proofs.PartTrees.{addresses_tree, integer_tree, principal_name_tree, realm_tree, time_tree}
 
 -- what is given of what may be missing
 pub in_optional : {A B : Type 0} (n first : ℕ) (tree : B → Tree) (get : A → B) (value : Option A) (trees : Trees) (b : B) → option_map get value ≡ Some b
@@ -49,6 +50,14 @@ module _ (n : ℕ) (body : KdcReqBody) (x : Fits n (kdc_req_body_tree body)) whe
       let from_end = behind_optional n (λ tagged. wrapped 164 (time_tree tagged.0.0)) body.from.0 _ from_start in
       let from_nonce = behind_optional n (λ tagged. wrapped 166 (time_tree tagged.0.0)) body.rtime.0 _ (tail n _ _ from_end) in
       in_tag n 167 (integer_tree body.nonce.0) (head n _ _ from_nonce)
+
+  pub addresses_fits : (list : List HostAddress) → option_map (λ tagged. tagged.0) body.addresses.0 ≡ Some list → Fits n (addresses_tree list)
+  addresses_fits list e =
+      let from_realm = behind_optional n (λ tagged. wrapped 161 (principal_name_tree tagged.0)) body.cname.0 _ (tail n _ _ (inside n 48 _ x)) in
+      let from_start = behind_optional n (λ tagged. wrapped 163 (principal_name_tree tagged.0)) body.sname.0 _ (tail n _ _ from_realm) in
+      let from_end = behind_optional n (λ tagged. wrapped 164 (time_tree tagged.0.0)) body.from.0 _ from_start in
+      let from_nonce = behind_optional n (λ tagged. wrapped 166 (time_tree tagged.0.0)) body.rtime.0 _ (tail n _ _ from_end) in
+      in_optional n 169 addresses_tree (λ tagged. tagged.0) body.addresses.0 _ list e (tail n _ _ (tail n _ _ from_nonce))
 
 -- the data of the padata of a request
 pa_data_fits : (n : ℕ) (pa_data : PaData) → Fits n (pa_data_tree pa_data) → IsShort n pa_data.padata_data.0

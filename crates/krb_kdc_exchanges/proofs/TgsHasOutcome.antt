@@ -1,5 +1,5 @@
 -- The table of TGS requests has an outcome: each part of it has one.
-use Rattle.std.proofs.Common.{◌≡◌, ◌<◌, ℕ, ◌^◌, Bool, true, false, not, ◌&&◌, List, length, Option, None, Some, Result, Ok, Err, inl, inr, refl, sym, subst}
+use Rattle.std.proofs.Common.{◌≡◌, ◌<◌, ℕ, ◌^◌, Bool, true, false, not, ◌&&◌, List, length, Option, None, Some, Result, Ok, Err, inl, inr, refl, sym, subst, if◌then◌else◌}
 use Rattle.std.specs.Prelude.{◌||◌}
 use Rattle.std.specs.Option.{is_some, option_map}
 use Rattle.block_ciphers.specs.Bytes.{IsBytes}
@@ -19,6 +19,7 @@ use Rattle.krb_messages.specs.declared.data_types.authenticator.AuthenticatorInn
 use Rattle.krb_messages.specs.declared.data_types.checksum.Checksum.{Checksum}
 use Rattle.krb_messages.specs.declared.data_types.enc_ticket_part.EncTicketPartInner.{EncTicketPartInner}
 use Rattle.krb_messages.specs.declared.data_types.encryption_key.EncryptionKey.{EncryptionKey}
+use Rattle.krb_messages.specs.declared.data_types.host_address.HostAddress.{HostAddress}
 use Rattle.krb_messages.specs.declared.data_types.pa_data.PaData.{PaData}
 use Rattle.krb_messages.specs.declared.data_types.principal_name.PrincipalName.{PrincipalName}
 use Rattle.krb_tickets.specs.Keys.{suite_of}
@@ -46,14 +47,14 @@ use Rattle.krb_messages.specs.TicketGranting.{krbtgt_of}
 use Rattle.krb_kdc_exchanges.specs.declared.span.Span.{Span}
 use Rattle.krb_kdc_exchanges.proofs.HasGrant.{has_granted_till, has_header, has_lasting, has_lasting_to, has_old_till, has_tilled}
 use Rattle.krb_kdc_exchanges.proofs.PartTrees.{realm_tree}
-use Rattle.krb_kdc_exchanges.proofs.RequestTrees.{body_fits, padata_short, nonce_fits, service_fits}
+use Rattle.krb_kdc_exchanges.proofs.RequestTrees.{addresses_fits, body_fits, padata_short, nonce_fits, service_fits}
 use Rattle.krb_kdc_exchanges.proofs.Short.{Fits}
 use Rattle.krb_kdc_exchanges.proofs.Written.{IsWritten, is_written, own_realm_fits, session_short}
 use Rattle.krb_ap_requests.specs.ApTable.{ap_fields, authenticated, is_early, is_for, is_late, is_version_5, kvno_fits, opened_part, timely}
 use Rattle.krb_tickets.proofs.KeySizes.{suite_sized}
 use Rattle.krb_ap_requests.proofs.Judgements.{has_authenticated, has_fields, has_opened_part, has_times}
 use Rattle.krb_kdc_exchanges.specs.ByTicket.{IsByTicket}
-use Rattle.krb_kdc_exchanges.specs.TgsTable.{by_options, carried, checksum_in, client_and_times, covered, first_granted, further, further_asked, further_grant, further_in, further_lasting, further_replied, further_till, has_account, is_granting, is_known_checksum, is_of_body, of_carried, of_authenticated, of_ticket, reply_key, authenticated_near, subkey_in, tgs_granted, tgs_table, ticket_granting, to_us, without_des3}
+use Rattle.krb_kdc_exchanges.specs.TgsTable.{addresses_in, by_options, carried, checksum_in, client_and_times, covered, first_granted, further, further_asked, further_grant, further_in, further_lasting, further_replied, further_till, has_account, is_granting, is_known_checksum, is_of_body, of_carried, of_authenticated, of_ticket, reply_key, authenticated_near, subkey_in, tgs_granted, tgs_table, ticket_granting, to_us, without_des3}
 use Rattle.krb_kdc_exchanges.proofs.ByTicket.{IsOfKey, by_authenticator, by_padata, by_ticket}
 use Rattle.krb_kdc_exchanges.proofs.PresentedTrees.{authenticator_short, part_name_fits, request_fits, subkey_short, ticket_short}
 use Rattle.krb_kdc_exchanges.proofs.SealedLengths.{opened_fits}
@@ -153,6 +154,15 @@ module _ (call : CallRecord) (request : KdcReq) (is : IsCall call) (n : ℕ) (fe
       (authenticator_short n ap_req (carried_fits ap_req part by)) in
       (subkey_short n authenticated.authenticator subkey opened e).bytes
 
+  -- what the request asks for by its options
+  abbrev asked_by : AskedOptions
+  asked_by = asked_options call.settings.policy body.kdc_options.0
+
+  -- the ticket's addresses are the request's
+  of_request : (is : Bool) (list : List HostAddress) → (if is then addresses_in body else None) ≡ Some list → addresses_in body ≡ Some list
+  of_request true list e = e
+  of_request false list e = absurd (cc (e))
+
   -- what is granted can be written
   further_written : (ap_req : ApReqInner) (part : EncTicketPartInner) (service : PrincipalName) (suite : CipherSuite) (span : Span) (till : Option GeneralizedTime) → IsByTicket call request ap_req part
       → service_of body ≡ Some service → IsWritten Tgs (further_grant call part service suite body span till)
@@ -168,6 +178,7 @@ module _ (call : CallRecord) (request : KdcReq) (is : IsCall call) (n : ℕ) (fe
         client = part_name_fits n part opened;
         service = service_fits n body asked service named;
         nonce = nonce_fits n body asked;
+        addresses = λ list e. addresses_fits n body asked list (of_request (asked_by.forwards || asked_by.proxies) list e);
       }) Tgs
 
   usable : (ap_req : ApReqInner) (part : EncTicketPartInner) (authenticated : Authenticated) → IsByTicket call request ap_req part → IsOfKey ap_req part authenticated

@@ -1,5 +1,5 @@
 -- What is sealed of a ticket that is granted can be written: its encodings are bytes.
-use Rattle.std.proofs.Common.{◌≡◌, ◌<◌, ◌≤◌, ℕ, ◌+◌, ◌^◌, Bool, true, false, not, List, [], ◌∷◌, length, drop, Ok, refl, subst, if◌then◌else◌, arith}
+use Rattle.std.proofs.Common.{◌≡◌, ◌<◌, ◌≤◌, ℕ, ◌+◌, ◌^◌, Bool, true, false, not, List, [], ◌∷◌, length, drop, Some, Ok, refl, subst, if◌then◌else◌, arith}
 use Rattle.std.proofs.lemmas.Bool.{and_parts, eqb-true}
 use Rattle.std.proofs.lemmas.List.{length-drop, length-take-le}
 use Rattle.std.specs.Bool.{nat_eq}
@@ -14,6 +14,7 @@ use Rattle.krb_crypto.proofs.SealedTexts.{seed_key_bytes, seed_key_sized}
 use Rattle.krb_messages.specs.Names.{is_same_realm}
 use Rattle.krb_messages.specs.RandomBytes.{session_seed}
 use Rattle.krb_messages.specs.MessageTrees.{kdc_req_inner_tree}
+use Rattle.krb_messages.specs.declared.data_types.host_address.HostAddress.{HostAddress}
 use Rattle.krb_messages.specs.declared.messages.kdc_req.KdcReq.{KdcReq}
 use Rattle.decision_tables.specs.Tables.{done, refuse}
 use Rattle.krb_tickets.specs.Grant.{GrantRecord}
@@ -22,7 +23,7 @@ use Rattle.krb_tickets.specs.declared.reply.Exchange.TheVariants.{As, Tgs}
 use Rattle.krb_tickets.specs.Parts.{flags_octet, front_octet, masked, reply_part, session_key_of, ticket_part}
 use Rattle.krb_tickets.specs.Sealed.{reply_part_bytes, ticket_part_bytes}
 use Rattle.krb_kdc_exchanges.specs.Requests.{header_rows, is_postdated}
-use Rattle.krb_kdc_exchanges.proofs.PartTrees.{AreFit, integer_tree, principal_name_tree, realm_tree, reply_fits, ticket_fits}
+use Rattle.krb_kdc_exchanges.proofs.PartTrees.{AreFit, addresses_tree, integer_tree, principal_name_tree, realm_tree, reply_fits, ticket_fits}
 use Rattle.krb_kdc_exchanges.proofs.RequestTrees.{body_fits, realm_fits}
 use Rattle.krb_kdc_exchanges.proofs.Short.{Fits, IsShort}
 
@@ -63,6 +64,7 @@ pub record HoldsShort (n : ℕ) (grant : GrantRecord) : Type 0 where
   pub client : Fits n (principal_name_tree grant.client)
   pub service : Fits n (principal_name_tree grant.service)
   pub nonce : Fits n (integer_tree grant.nonce)
+  pub addresses : (list : List HostAddress) → grant.addresses ≡ Some list → Fits n (addresses_tree list)
 
 module _ (n : ℕ) (grant : GrantRecord) (x : HoldsShort n grant) where
   below : flags_octet grant.flags < 256
@@ -79,14 +81,14 @@ module _ (n : ℕ) (grant : GrantRecord) (x : HoldsShort n grant) where
 
   ticket_bytes : IsBytes (ticket_part_bytes (ticket_part grant))
   unfolding ticket_part ticket_part_bytes
-  ticket_bytes = (ticket_fits n grant.suite grant.session grant.realm grant.client of_client (front_octet grant.flags) (flags_octet grant.flags) low below grant.auth_time grant.starttime grant.endtime grant.renew_till).written.bytes
+  ticket_bytes = (ticket_fits n grant.suite grant.session grant.realm grant.client of_client (front_octet grant.flags) (flags_octet grant.flags) low below grant.auth_time grant.starttime grant.endtime grant.renew_till grant.addresses x.addresses).written.bytes
 
   reply_bytes : (exchange : Exchange) → IsBytes (reply_part_bytes exchange (reply_part grant))
   unfolding reply_part reply_part_bytes
   reply_bytes As =
-      (reply_fits n grant.suite grant.session grant.realm grant.service of_service (front_octet grant.flags) (flags_octet grant.flags) low below grant.auth_time grant.starttime grant.endtime grant.renew_till 121 (omega arith) grant.nonce x.nonce).written.bytes
+      (reply_fits n grant.suite grant.session grant.realm grant.service of_service (front_octet grant.flags) (flags_octet grant.flags) low below grant.auth_time grant.starttime grant.endtime grant.renew_till grant.addresses x.addresses 121 (omega arith) grant.nonce x.nonce).written.bytes
   reply_bytes Tgs =
-      (reply_fits n grant.suite grant.session grant.realm grant.service of_service (front_octet grant.flags) (flags_octet grant.flags) low below grant.auth_time grant.starttime grant.endtime grant.renew_till 122 (omega arith) grant.nonce x.nonce).written.bytes
+      (reply_fits n grant.suite grant.session grant.realm grant.service of_service (front_octet grant.flags) (flags_octet grant.flags) low below grant.auth_time grant.starttime grant.endtime grant.renew_till grant.addresses x.addresses 122 (omega arith) grant.nonce x.nonce).written.bytes
 
   pub is_written : (exchange : Exchange) → IsWritten exchange grant
   is_written exchange = record { ticket = ticket_bytes; reply = reply_bytes exchange }

@@ -50,6 +50,7 @@ plain_initial call principals body span = record {
   starttime = span.starttime;
   endtime = span.endtime;
   renew_till = None;
+  addresses = None;
   nonce = body.nonce.0;
 }
 
@@ -79,6 +80,7 @@ plain_further call part service suite body span = record {
   starttime = span.starttime;
   endtime = span.endtime;
   renew_till = None;
+  addresses = None;
   nonce = body.nonce.0;
 }
 

@@ -65,6 +65,7 @@ initial_grant call principals body span till = record {
   starttime = span.starttime;
   endtime = span.endtime;
   renew_till = till;
+  addresses = None;
   nonce = body.nonce.0;
 }
 

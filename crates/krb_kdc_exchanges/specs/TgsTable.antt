@@ -1,5 +1,5 @@
 -- The outcome of a TGS request, in parts of one table, row by row: the first case that holds counts (RFC 4120, section 3.3.3).
-use Rattle.std.specs.Prelude.{Bool, true, false, not, ◌&&◌, ◌||◌, List, Option, None, Some, Result, Ok, Err, ℤ}
+use Rattle.std.specs.Prelude.{Bool, true, false, not, ◌&&◌, ◌||◌, List, Option, None, Some, Result, Ok, Err, ℤ, if◌then◌else◌}
 use Rattle.std.specs.Bool.{nat_eq}
 use Rattle.std.specs.Cmp.Lexicographic.{pointwise}
 use Rattle.std.specs.List.{find, list_any}
@@ -23,6 +23,7 @@ use Rattle.krb_messages.specs.declared.data_types.authenticator.AuthenticatorInn
 use Rattle.krb_messages.specs.declared.data_types.checksum.Checksum.{Checksum}
 use Rattle.krb_messages.specs.declared.data_types.enc_ticket_part.EncTicketPartInner.{EncTicketPartInner}
 use Rattle.krb_messages.specs.declared.data_types.encryption_key.EncryptionKey.{EncryptionKey}
+use Rattle.krb_messages.specs.declared.data_types.host_address.HostAddress.{HostAddress}
 use Rattle.krb_messages.specs.declared.data_types.pa_data.PaData.{PaData}
 use Rattle.krb_messages.specs.declared.data_types.principal_name.PrincipalName.{PrincipalName}
 use Rattle.krb_messages.specs.Refusals.{Code}
@@ -244,6 +245,14 @@ further_flags policy asked options old till = record {
 abbrev pub granted_flags : Policy → EncTicketPartInner → KdcReqBody → Option GeneralizedTime → TicketFlags
 granted_flags policy part body till = further_flags policy (asked_options policy body.kdc_options.0) body.kdc_options.0 part.flags.0 till
 
+-- the addresses of a request
+abbrev pub addresses_in : KdcReqBody → Option (List HostAddress)
+addresses_in body = option_map (λ tagged. tagged.0) body.addresses.0
+
+-- the ticket's addresses: those of a request for a forwarded ticket or a proxy
+abbrev pub further_addresses : AskedOptions → KdcReqBody → Option (List HostAddress)
+further_addresses asked body = if asked.forwards || asked.proxies then addresses_in body else None
+
 -- the ticket: client and authtime are the presented ticket's
 abbrev pub further_grant : CallRecord → EncTicketPartInner → PrincipalName → CipherSuite → KdcReqBody → Span → Option GeneralizedTime → GrantRecord
 further_grant call part service suite body span till = record {
@@ -257,6 +266,7 @@ further_grant call part service suite body span till = record {
   starttime = span.starttime;
   endtime = span.endtime;
   renew_till = till;
+  addresses = further_addresses (asked_options call.settings.policy body.kdc_options.0) body;
   nonce = body.nonce.0;
 }
 
@@ -270,6 +280,8 @@ further_replied call part service_name service suite under wanted body span =
     -- A ticket that is granted by a forwarded one is forwarded (RFC 4120, section 2.6). Test: `tgs by forwarded` of `company_realms.txt`.
     -- A ticket is renewable where the presented one is, at most up to its renew-till (RFC 4120, section 3.3.3). Test: `tgs renewable`,
     -- `tgs renewable by another one` of `company_realms.txt`.
+    -- A forwarded ticket and a proxy have the `addresses` of the request as caddr, and no other ticket has any (RFC 4120, section 3.3.3). Test:
+    -- `tgs forwarded, addresses`, `tgs proxy, addresses`, `tgs addresses without an option`, `tgs renew, addresses` of `company_realms.txt`.
     -- Ignored: the presented ticket's authorization-data, caddr and transited, and without a policy its renew-till: nothing of them is in the
     -- new ticket (RFC 4120, section 3.3.3). Test: `tgs short options` of `kdc_exchanges.txt`.
     make (IsTill wanted) (sole_till wanted) (λ till.

@@ -3,7 +3,7 @@ use Rattle.std.proofs.Common.{◌≡◌, ℕ, Bool, true, Option, None, Some}
 use Rattle.asn1_leaves.specs.CharSets.{is_general_string}
 use Rattle.asn1_leaves.specs.declared.date.GeneralizedTime.{GeneralizedTime}
 use Rattle.asn1_der.specs.Tagged.{tagged_tree}
-use Rattle.asn1_der.specs.Tree.{IsWhole, Tree, leaf, none, wrapped}
+use Rattle.asn1_der.specs.Tree.{IsWhole, Tree, leaf, wrapped}
 use Rattle.asn1_der.proofs.Spelling.{whole-wrapped}
 use Rattle.picky_asn1.specs.Bytes.{Bytes}
 use Rattle.krb_crypto.specs.declared.suite.CipherSuite.{CipherSuite}
@@ -18,7 +18,7 @@ use Rattle.krb_tickets.specs.Grant.{GrantRecord}
 use Rattle.krb_client.specs.Authenticators.{ap_request_of, authenticator_with, authenticator_parts_of}
 use Rattle.krb_client.specs.Client.{ClientRecord}
 use Rattle.krb_logins.proofs.Names.{are_texts}
-use Rattle.krb_logins.proofs.WholeRequests.{whole_text, whole_texts, whole_till}
+use Rattle.krb_logins.proofs.WholeRequests.{whole_addresses, whole_text, whole_texts, whole_till}
 
 -- a text under a tag
 pub tagged_text : (tag : ℕ) (text : Bytes) → is_general_string text ≡ true → IsWhole (wrapped tag (leaf (is_general_string text) 27 text))
@@ -43,7 +43,7 @@ whole_request wanted ticket suite cipher whole = (((tt, tt), ((tt, tt), ((tt, tt
 pub whole_part : (grant : GrantRecord) → is_general_string grant.realm ≡ true → are_texts grant.client.name_string.0 ≡ true → IsWhole (enc_ticket_part_tree (ticket_part grant))
 unfolding ticket_part
 whole_part grant realm names =
-    (((tt, tt), ((((tt, tt), ((tt, tt), tt)), tt), (tagged_text 162 grant.realm realm, ((((tt, tt), ((whole_texts 27 grant.client.name_string.0 names, tt), tt)), tt), ((((tt, tt), ((tt, tt), tt)), tt), ((tt, tt), ((tt, tt), ((tt, tt), whole_till none tt grant.renew_till)))))))), tt)
+    (((tt, tt), ((((tt, tt), ((tt, tt), tt)), tt), (tagged_text 162 grant.realm realm, ((((tt, tt), ((whole_texts 27 grant.client.name_string.0 names, tt), tt)), tt), ((((tt, tt), ((tt, tt), tt)), tt), ((tt, tt), ((tt, tt), ((tt, tt), whole_till _ (whole_addresses 169 grant.addresses) grant.renew_till)))))))), tt)
 
 -- a client's authenticator, with a checksum or a subkey, or without
 pub whole_authenticator : (client : ClientRecord) (micros : ℕ) (second : GeneralizedTime) (checksum : Option Checksum) (subkey : Option EncryptionKey) → is_general_string client.realm ≡ true

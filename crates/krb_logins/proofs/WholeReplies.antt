@@ -13,7 +13,7 @@ use Rattle.krb_tickets.specs.declared.reply.Exchange.TheVariants.{As, Tgs}
 use Rattle.krb_tickets.specs.Parts.{kdc_reply_of, reply_part, ticket_of}
 use Rattle.krb_tickets.specs.Sealed.{kdc_reply_bytes, kdc_reply_tree, reply_part_bytes, reply_part_tree}
 use Rattle.krb_logins.proofs.Names.{are_texts}
-use Rattle.krb_logins.proofs.WholeRequests.{whole_encrypted, whole_text, whole_texts, whole_till}
+use Rattle.krb_logins.proofs.WholeRequests.{whole_addresses, whole_encrypted, whole_text, whole_texts, whole_till}
 
 -- the names of a grant can be written
 pub record AreTexts (grant : GrantRecord) : Type 0 where
@@ -80,7 +80,7 @@ inner_part grant texts = (
               (tt, tt),
               whole_till _ (
                 whole-wrapped 169 (leaf (is_general_string grant.realm) 27 grant.realm) (whole_text 27 grant.realm texts.realm),
-                ((((tt, tt), ((whole_texts 27 (components grant.service) texts.service, tt), tt)), tt), tt),
+                ((((tt, tt), ((whole_texts 27 (components grant.service) texts.service, tt), tt)), tt), whole_addresses 171 grant.addresses),
               ) grant.renew_till,
             ),
           ),

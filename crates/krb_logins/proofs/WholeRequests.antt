@@ -1,7 +1,7 @@
 -- The requests of clients can be written: nothing is missing in their trees.
-use Rattle.std.proofs.Common.{◌≡◌, ℕ, true, List, [], ◌∷◌, Option, None, Some, refl, sym, subst}
+use Rattle.std.proofs.Common.{◌≡◌, ℕ, ◌-◌, true, List, [], ◌∷◌, Option, None, Some, refl, sym, subst}
 use Rattle.std.proofs.lemmas.Bool.{and_parts}
-use Rattle.asn1_der.specs.Tree.{AreWhole, IsWhole, Trees, Writes, leaf, put, trees_of, wrapped}
+use Rattle.asn1_der.specs.Tree.{AreWhole, IsWhole, Trees, Writes, leaf, none, put, trees_of, wrapped}
 use Rattle.asn1_der.proofs.Spelling.{whole-wrapped}
 use Rattle.asn1_leaves.specs.CharSets.{is_general_string}
 use Rattle.asn1_leaves.specs.declared.date.GeneralizedTime.{GeneralizedTime}
@@ -10,11 +10,12 @@ use Rattle.krb_crypto.specs.declared.suite.CipherSuite.{CipherSuite}
 use Rattle.krb_messages.specs.RandomBytes.{Random}
 use Rattle.krb_messages.specs.Trees as held
 use Rattle.krb_messages.specs.declared.data_types.encrypted_data.EncryptedData.{EncryptedData}
+use Rattle.krb_messages.specs.declared.data_types.host_address.HostAddress.{HostAddress}
 use Rattle.krb_messages.specs.declared.data_types.pa_data.PaData.{PaData}
 use Rattle.krb_messages.specs.declared.data_types.pa_enc_timestamp.PaEncTsEnc.{PaEncTsEnc}
 use Rattle.krb_messages.specs.Messages.{IsAsReq, IsTgsReq, as_req_tree, tgs_req_tree}
-use Rattle.krb_tickets.specs.Parts.{tagged_till}
-use Rattle.krb_kdc_exchanges.proofs.PartTrees.{integer_tree, time_tree}
+use Rattle.krb_tickets.specs.Parts.{tagged_addresses, tagged_till}
+use Rattle.krb_kdc_exchanges.proofs.PartTrees.{addresses_tree, host_address_tree, integer_tree, time_tree}
 use Rattle.krb_client.specs.AsRequest.{as_body_of_suites, as_request_of}
 use Rattle.krb_client.specs.Client.{ClientRecord}
 use Rattle.krb_client.specs.Messages.{as_request_bytes, encrypted_bytes, tgs_request_bytes, timestamp_bytes}
@@ -35,6 +36,15 @@ whole_texts first (text ∷ texts) all =
 pub whole_till : (rest : Trees) → AreWhole rest → (till : Option GeneralizedTime) → AreWhole (put (λ tagged. wrapped 168 (time_tree tagged.0.0)) (tagged_till till) rest)
 whole_till rest whole None = whole
 whole_till rest whole (Some time) = ((tt, tt), whole)
+
+-- caddr under its tag, if there are addresses, at the end
+whole_each : (list : List HostAddress) → AreWhole (trees_of host_address_tree list)
+whole_each [] = tt
+whole_each (address ∷ list) = (((tt, tt), ((tt, tt), tt)), whole_each list)
+
+pub whole_addresses : (first : ℕ) (addresses : Option (List HostAddress)) → AreWhole (put (λ tagged. wrapped first (addresses_tree tagged.0)) (tagged_addresses {tag = first - 160} addresses) none)
+whole_addresses first None = tt
+whole_addresses first (Some list) = ((whole_each list, tt), tt)
 
 -- encrypted data, with a kvno or without
 pub whole_encrypted : (encrypted : EncryptedData) → IsWhole (held.encrypted_data_tree encrypted)

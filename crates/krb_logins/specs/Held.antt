@@ -33,6 +33,7 @@ first_grant client realm login span = record {
   starttime = span.starttime;
   endtime = span.endtime;
   renew_till = None;
+  addresses = None;
   nonce = pos (nonce_of login.words_as);
 }
 
@@ -54,6 +55,7 @@ further_grant client realm login first span = record {
   starttime = span.starttime;
   endtime = span.endtime;
   renew_till = None;
+  addresses = None;
   nonce = pos (nonce_of login.words_tgs);
 }
 

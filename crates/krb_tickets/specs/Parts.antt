@@ -13,6 +13,7 @@ use Rattle.krb_constants.specs.declared.ticket_flags.TheConstants.{FORWARDABLE_M
 use Rattle.krb_constants.specs.declared.types.TheConstants.{AS_REP_MSG_TYPE, KERBEROS_VERSION, TGS_REP_MSG_TYPE}
 use Rattle.krb_messages.specs.declared.data_types.encrypted_data.EncryptedData.{EncryptedData}
 use Rattle.krb_messages.specs.declared.data_types.enc_ticket_part.EncTicketPartInner.{EncTicketPartInner}
+use Rattle.krb_messages.specs.declared.data_types.host_address.HostAddress.{HostAddress}
 use Rattle.krb_messages.specs.declared.data_types.last_req.LastReqInner.{LastReqInner}
 use Rattle.krb_messages.specs.declared.data_types.ticket.TicketInner.{TicketInner}
 use Rattle.krb_messages.specs.declared.data_types.transited_encoding.TransitedEncoding.{TransitedEncoding}
@@ -93,7 +94,11 @@ last_requests start = record { lr_type = record { 0 = pos NO_LAST_REQUEST }; lr_
 abbrev pub tagged_till : Option GeneralizedTime → Option (ExplicitContextTag 8 GeneralizedTimeAsn1)
 tagged_till till = option_map (λ time. record { 0 = record { 0 = time } }) till
 
--- the ticket's part under the service's key: it has no caddr and no authorization-data, and no realm transited
+-- caddr, as ticket and reply have it, each under its own tag, if there are addresses
+abbrev pub tagged_addresses : {tag : ℕ} → Option (List HostAddress) → Option (ExplicitContextTag tag (List HostAddress))
+tagged_addresses addresses = option_map (λ list. record { 0 = list }) addresses
+
+-- the ticket's part under the service's key: it has no authorization-data, and no realm transited
 unfoldable pub ticket_part : GrantRecord → EncTicketPartInner
 ticket_part grant = record {
   flags = record { 0 = flags_of grant.flags };
@@ -105,7 +110,7 @@ ticket_part grant = record {
   starttime = record { 0 = Some (record { 0 = record { 0 = grant.starttime } }) };
   endtime = record { 0 = record { 0 = grant.endtime } };
   renew_till = record { 0 = tagged_till grant.renew_till };
-  caddr = record { 0 = None };
+  caddr = record { 0 = tagged_addresses grant.addresses };
   authorization_data = record { 0 = None };
 }
 
@@ -123,7 +128,7 @@ reply_part grant = record {
   renew_till = record { 0 = tagged_till grant.renew_till };
   srealm = record { 0 = grant.realm };
   sname = record { 0 = grant.service };
-  caddr = record { 0 = None };
+  caddr = record { 0 = tagged_addresses grant.addresses };
   encrypted_pa_data = record { 0 = None };
 }
 

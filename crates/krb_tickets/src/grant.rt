@@ -12,7 +12,9 @@ use crate::sealed_data;
 use krb_constants::key_usages;
 use krb_constants::types::{ENC_TICKET_PART_TYPE, KERBEROS_VERSION};
 use krb_crypto::CipherSuite;
-use krb_messages::data_types::{EncTicketPartInner, EncryptedData, PrincipalName, TicketInner};
+use krb_messages::data_types::{
+    EncTicketPartInner, EncryptedData, HostAddresses, PrincipalName, TicketInner,
+};
 use krb_realm_accounts::Account;
 use picky_asn1::date::GeneralizedTime;
 use picky_asn1::wrapper::{GeneralStringAsn1, IntegerAsn1, OctetStringAsn1};
@@ -42,6 +44,8 @@ pub struct Grant<'a> {
     pub endtime: GeneralizedTime,
     /// The last second that a renewed ticket may end in, if the ticket is renewable.
     pub renew_till: Option<GeneralizedTime>,
+    /// The addresses that a forwarded ticket or a proxy is for, if the request has some. Nobody judges them.
+    pub addresses: Option<&'a HostAddresses>,
     /// The request's nonce, which the reply repeats.
     pub nonce: &'a IntegerAsn1,
 }

@@ -1,7 +1,8 @@
 //! The parts of a granted ticket and of its reply, before encryption.
 ghost use Rattle.std.specs.Prelude.{◌≡◌, ◌≤◌, IfOk};
+ghost use Rattle.std.specs.Option.{option_map};
 ghost use Rattle.krb_tickets.specs.Grant.{grant_of};
-ghost use Rattle.krb_tickets.specs.Parts.{flags_octet, flags_of, front_octet, last_requests, masked, no_realms, reply_part, tagged_till, ticket_part};
+ghost use Rattle.krb_tickets.specs.Parts.{flags_octet, flags_of, front_octet, last_requests, masked, no_realms, reply_part, tagged_addresses, tagged_till, ticket_part};
 
 use crate::encryption_key;
 use crate::grant::{Grant, TicketFlags};
@@ -10,14 +11,18 @@ use krb_constants::ticket_flags::{
     RENEWABLE_MASK,
 };
 use krb_messages::data_types::{
-    EncTicketPartInner, KerberosFlags, KerberosTime, LastReq, LastReqInner, TransitedEncoding,
+    EncTicketPartInner, HostAddresses, KerberosFlags, KerberosTime, LastReq, LastReqInner,
+    TransitedEncoding,
 };
 use krb_messages::messages::EncKdcRepPart;
 use picky_asn1::date::GeneralizedTime;
 use picky_asn1::wrapper::{
     Asn1SequenceOf, BitStringAsn1, GeneralizedTimeAsn1, IntegerAsn1, OctetStringAsn1,
 };
-use picky_asn1_der::{ExplicitContextTag, ExplicitContextTag8, LentFields, Optional, both};
+use picky_asn1_der::{
+    ExplicitContextTag, ExplicitContextTag8, ExplicitContextTag9, ExplicitContextTag11, LentFields,
+    Optional, both,
+};
 use std::alloc::{AllocError, Global};
 
 /// The encoding of transited realms that RFC 4120 names, DOMAIN-X500-COMPRESS (section 7.5.5).
@@ -38,7 +43,9 @@ pub(crate) fn ticket_part(
     let key = encryption_key(alloc, grant.suite, &grant.session);
     let names = (grant.realm, (grant.client, ())).copied();
     let transited = no_realms(alloc);
-    let ((flags, key), (names, transited)) = both(both(flags, key), both(names, transited))?;
+    let caddr = ticket_addresses(grant.addresses);
+    let ((flags, key), (names, (transited, caddr))) =
+        both(both(flags, key), both(names, both(transited, caddr)))?;
     Ok(EncTicketPartInner {
         flags: ExplicitContextTag(flags),
         key: ExplicitContextTag(key),
@@ -49,7 +56,7 @@ pub(crate) fn ticket_part(
         starttime: Optional(Some(ExplicitContextTag(GeneralizedTimeAsn1(grant.starttime)))),
         endtime: ExplicitContextTag(GeneralizedTimeAsn1(grant.endtime)),
         renew_till: Optional(tagged_till(grant.renew_till)),
-        caddr: Optional(None),
+        caddr: Optional(caddr),
         authorization_data: Optional(None),
     })
 }
@@ -63,7 +70,9 @@ pub(crate) fn reply_part(alloc: Global, grant: &Grant<'_>) -> Result<EncKdcRepPa
     let last_req = last_requests(alloc, grant.starttime);
     let flags = flags_of(alloc, grant.flags);
     let copies = (grant.nonce, (grant.realm, (grant.service, ()))).copied();
-    let ((key, last_req), (flags, copies)) = both(both(key, last_req), both(flags, copies))?;
+    let caddr = reply_addresses(grant.addresses);
+    let ((key, last_req), (flags, (copies, caddr))) =
+        both(both(key, last_req), both(flags, both(copies, caddr)))?;
     Ok(EncKdcRepPart {
         key: ExplicitContextTag(key),
         last_req: ExplicitContextTag(last_req),
@@ -76,7 +85,7 @@ pub(crate) fn reply_part(alloc: Global, grant: &Grant<'_>) -> Result<EncKdcRepPa
         renew_till: Optional(tagged_till(grant.renew_till)),
         srealm: ExplicitContextTag(copies.1.0),
         sname: ExplicitContextTag(copies.1.1.0),
-        caddr: Optional(None),
+        caddr: Optional(caddr),
         encrypted_pa_data: Optional(None),
     })
 }
@@ -126,6 +135,38 @@ fn tagged_till(till: Option<GeneralizedTime>) -> Option<ExplicitContextTag8<Kerb
     match till {
         Some(time) => Some(ExplicitContextTag(GeneralizedTimeAsn1(time))),
         None => None,
+    }
+}
+
+// Copies addresses.
+fn copied(addresses: &HostAddresses) -> Result<HostAddresses, AllocError>
+    ensures { IfOk result (λ copy. copy ≡ addresses.now) }
+{
+    let copy = addresses.clone()?;
+    Ok(copy)
+}
+
+// caddr as a field of the ticket's part.
+fn ticket_addresses(
+    addresses: Option<&HostAddresses>,
+) -> Result<Option<ExplicitContextTag9<HostAddresses>>, AllocError>
+    ensures { IfOk result (λ caddr. caddr ≡ tagged_addresses (option_map (λ list. list.now) addresses.entry)) }
+{
+    match addresses {
+        Some(addresses) => Ok(Some(ExplicitContextTag(copied(addresses)?))),
+        None => Ok(None),
+    }
+}
+
+// caddr as a field of the reply's part.
+fn reply_addresses(
+    addresses: Option<&HostAddresses>,
+) -> Result<Option<ExplicitContextTag11<HostAddresses>>, AllocError>
+    ensures { IfOk result (λ caddr. caddr ≡ tagged_addresses (option_map (λ list. list.now) addresses.entry)) }
+{
+    match addresses {
+        Some(addresses) => Ok(Some(ExplicitContextTag(copied(addresses)?))),
+        None => Ok(None),
     }
 }
 

@@ -295,9 +295,10 @@ class Realm:
         refuse(subkey is not None and KEY_SIZES.get(subkey[0]) != len(subkey[1]), 31)
         under = (suite, part[1][1], None, BY_SESSION) if subkey is None else (subkey[0], subkey[1], None, BY_SUBKEY)
         till = till if has(options, RENEW) else self.later_till(options, body, part, start, end)
+        addresses = body.get(9) if has(options, FORWARDED) or has(options, PROXY) else None
         ticket = dict(
             flags=self.later_flags(options, part, till), client=part[3], service=body[3], auth=seconds(part[5]), start=start, end=end,
-            till=till, nonce=body[7], suite=own)
+            till=till, nonce=body[7], suite=own, addresses=addresses)
         return self.granted(0x6D, 13, 0x7A, ticket, service, under)
 
     @staticmethod
@@ -376,13 +377,16 @@ class Realm:
         session = typed(ticket["suite"], key_from(ticket["suite"], WORDS))
         till = None if ticket["till"] is None else moment(ticket["till"])
         client, name = named((ticket["client"][0], parts(ticket["client"]))), named((ticket["service"][0], parts(ticket["service"])))
+        addresses = None
+        if ticket.get("addresses") is not None:
+            addresses = listed(typed(entry[0], entry[1]) for entry in ticket["addresses"])
         times = {"auth": moment(ticket["auth"]), "start": moment(ticket["start"]), "end": moment(ticket["end"])}
         part = der(0x63, tagged({
             0: flags(ticket["flags"]), 1: session, 2: text(b"R"), 3: client, 4: typed(1, b""), 5: times["auth"], 6: times["start"],
-            7: times["end"], 8: till}))
+            7: times["end"], 8: till, 9: addresses}))
         own = der(part_tag, tagged({
             0: session, 1: listed([tagged({0: number(0), 1: times["start"]})]), 2: number(ticket["nonce"]), 4: flags(ticket["flags"]),
-            5: times["auth"], 6: times["start"], 7: times["end"], 8: till, 9: text(b"R"), 10: name}))
+            5: times["auth"], 6: times["start"], 7: times["end"], 8: till, 9: text(b"R"), 10: name, 11: addresses}))
         cipher = sealed(service.suite, service.key, TICKET_PART, WORDS[32:48], part)
         made = der(0x61, tagged({0: number(5), 1: text(b"R"), 2: name, 3: encrypted(service.suite, service.kvno, cipher)}))
         suite, key, kvno, usage = under
@@ -413,7 +417,7 @@ def body_of(options, service, till=NOW + 10 * HOUR, rtime=None, etypes=(18,), cl
     return tagged({
         0: flags(options), 1: client and named(client), 2: text(b"R"), 3: named(service), 5: moment(till),
         6: None if rtime is None else moment(rtime), 7: number(42), 8: listed(number(etype) for etype in etypes),
-        9: addresses and listed(typed(kind, octets) for kind, octets in addresses)})
+        9: None if addresses is None else listed(typed(kind, octets) for kind, octets in addresses)})
 
 
 def request_of(first, kind, padata, body):
@@ -444,6 +448,8 @@ def tgs_request(ticket, options, service=SERVICE, **asked):
     return request_of(0x6C, 12, [(1, ap_req)], body)
 
 
+# IPv4 and IPv6 (RFC 4120, section 7.5.3), and a type that nobody knows.
+ADDRESSES = [(2, bytes([192, 0, 2, 1])), (24, bytes.fromhex("20010db8") + bytes(11) + b"\1"), (-5, b"")]
 PLAIN = {INITIAL, PRE_AUTHENT}
 ALL = PLAIN | {FORWARDABLE, PROXIABLE, RENEWABLE}
 WEEK = 7 * DAY
@@ -470,6 +476,7 @@ def first_tickets():
     refused = ("forwarded", FORWARDED), ("proxy", PROXY), ("enc-tkt-in-skey", ENC_TKT_IN_SKEY), ("renew", RENEW), ("validate", VALIDATE)
     for name, bit in refused:
         yield f"as option {name}, company", as_request({bit})
+    yield "as addresses, company", as_request({FORWARDABLE}, addresses=ADDRESSES)
     yield "as option postdated, company", as_request({POSTDATED})
     yield "as forwardable for a service", as_request({FORWARDABLE}, service=SERVICE)
 
@@ -525,6 +532,12 @@ def further_tickets():
         yield f"tgs renew, end {name} the skew", tgs_request(ended, {RENEW}, KRBTGT)
     yield "tgs renew and forwarded", tgs_request(whole, {RENEW, FORWARDED, FORWARDABLE}, KRBTGT)
     yield "tgs renew and proxy", tgs_request(whole, {RENEW, PROXY}, KRBTGT)
+    yield "tgs forwarded, addresses", tgs_request(whole, {FORWARDED}, KRBTGT, addresses=ADDRESSES)
+    yield "tgs forwarded, no address", tgs_request(whole, {FORWARDED}, KRBTGT, addresses=[])
+    yield "tgs proxy, addresses", tgs_request(whole, {PROXY}, addresses=ADDRESSES)
+    yield "tgs addresses without an option", tgs_request(whole, (), addresses=ADDRESSES)
+    yield "tgs renew, addresses", tgs_request(whole, {RENEW}, KRBTGT, addresses=ADDRESSES)
+    yield "tgs renew and forwarded, addresses", tgs_request(whole, {RENEW, FORWARDED}, KRBTGT, addresses=ADDRESSES)
     for name, bit in ("enc-tkt-in-skey", ENC_TKT_IN_SKEY), ("validate", VALIDATE), ("postdated", POSTDATED):
         yield f"tgs option {name}, company", tgs_request(whole, {bit})
 

@@ -119,6 +119,7 @@ fn initial_grant<'a>(
         starttime: span.starttime,
         endtime: span.endtime,
         renew_till: till,
+        addresses: None,
         nonce: &body.nonce.0,
     })
 }

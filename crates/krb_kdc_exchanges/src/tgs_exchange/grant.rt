@@ -8,7 +8,7 @@ ghost use Rattle.krb_tickets.specs.Grant.{grant_of};
 ghost use Rattle.krb_tickets.specs.ReplyKeys.{reply_key_of};
 ghost use Rattle.krb_crypto.specs.Keys.{KeyRecord};
 ghost use Rattle.krb_kdc_exchanges.specs.SessionKeys.{HasSessionKey, under};
-ghost use Rattle.krb_kdc_exchanges.specs.TgsTable.{first_granted, first_number, further, further_flags, further_grant, further_in, granted_flags, has_des3_key, is_des3, is_granted, reply_key, subkey_in, suite_numbered, without_des3};
+ghost use Rattle.krb_kdc_exchanges.specs.TgsTable.{addresses_in, first_granted, first_number, further, further_addresses, further_flags, further_grant, further_in, granted_flags, has_des3_key, is_des3, is_granted, reply_key, subkey_in, suite_numbered, without_des3};
 
 use crate::granted::{Granted, granted_reply};
 use crate::options::{AskedOptions, asked_options};
@@ -19,7 +19,7 @@ use krb_ap_requests::Authenticated;
 use krb_constants::{error_codes, kdc_options, ticket_flags};
 use krb_crypto::{CipherSuite, Key};
 use krb_messages::data_types::{
-    AuthenticatorInner, EncTicketPartInner, EncryptionKey, PrincipalName,
+    AuthenticatorInner, EncTicketPartInner, EncryptionKey, HostAddresses, PrincipalName,
 };
 use krb_messages::messages::KdcReqBody;
 use krb_messages::{Refusal, is_number};
@@ -206,7 +206,9 @@ fn further_grant<'a>(
     ensures { IfOk result (λ grant. grant_of grant ≡ further_grant (call_of call.now) part.now service_name.now suite body.now span till) }
 {
     let session = session_key(alloc, suite, call.words)?;
-    let flags = granted_flags(call.settings.policy(), part, body, till);
+    let policy = call.settings.policy();
+    let asked = asked_options(policy, &body.kdc_options.0);
+    let flags = granted_flags(policy, part, body, till);
     Ok(Grant {
         suite,
         session,
@@ -218,8 +220,30 @@ fn further_grant<'a>(
         starttime: span.starttime,
         endtime: span.endtime,
         renew_till: till,
+        addresses: further_addresses(asked, body),
         nonce: &body.nonce.0,
     })
+}
+
+// The addresses of a request for a forwarded ticket or a proxy.
+fn further_addresses(asked: AskedOptions, body: &KdcReqBody) -> Option<&HostAddresses>
+    ensures { option_copied result ≡ further_addresses asked body.now }
+{
+    if asked.forwards || asked.proxies {
+        addresses_in(body)
+    } else {
+        None
+    }
+}
+
+// The addresses of a request.
+fn addresses_in(body: &KdcReqBody) -> Option<&HostAddresses>
+    ensures { option_copied result ≡ addresses_in body.now }
+{
+    match &body.addresses.0 {
+        Some(tagged) => Some(&tagged.0),
+        None => None,
+    }
 }
 
 // The flags of what is granted by the presented ticket.
