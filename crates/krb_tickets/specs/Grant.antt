@@ -1,6 +1,6 @@
 -- What a ticket is granted with, in an AS or a TGS exchange (RFC 4120, sections 3.1.3, 3.3.3).
 use Rattle.std.specs.Prelude.{ℤ, List, Option}
-use Rattle.std.specs.Option.{option_map}
+use Rattle.std.specs.Option.{option_copied}
 use Rattle.asn1_leaves.specs.declared.date.GeneralizedTime.{GeneralizedTime}
 use Rattle.picky_asn1.specs.Bytes.{Bytes}
 use Rattle.krb_crypto.specs.declared.suite.CipherSuite.{CipherSuite}
@@ -38,6 +38,6 @@ grant_of this = record {
   starttime = this.starttime;
   endtime = this.endtime;
   renew_till = this.renew_till;
-  addresses = option_map (λ list. list.now) this.addresses;
+  addresses = option_copied this.addresses;
   nonce = this.nonce.now;
 }

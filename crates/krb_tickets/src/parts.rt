@@ -1,6 +1,6 @@
 //! The parts of a granted ticket and of its reply, before encryption.
 ghost use Rattle.std.specs.Prelude.{◌≡◌, ◌≤◌, IfOk};
-ghost use Rattle.std.specs.Option.{option_map};
+ghost use Rattle.std.specs.Option.{option_copied};
 ghost use Rattle.krb_tickets.specs.Grant.{grant_of};
 ghost use Rattle.krb_tickets.specs.Parts.{flags_octet, flags_of, front_octet, last_requests, masked, no_realms, reply_part, tagged_addresses, tagged_till, ticket_part};
 
@@ -150,7 +150,7 @@ fn copied(addresses: &HostAddresses) -> Result<HostAddresses, AllocError>
 fn ticket_addresses(
     addresses: Option<&HostAddresses>,
 ) -> Result<Option<ExplicitContextTag9<HostAddresses>>, AllocError>
-    ensures { IfOk result (λ caddr. caddr ≡ tagged_addresses (option_map (λ list. list.now) addresses.entry)) }
+    ensures { IfOk result (λ caddr. caddr ≡ tagged_addresses (option_copied addresses.entry)) }
 {
     match addresses {
         Some(addresses) => Ok(Some(ExplicitContextTag(copied(addresses)?))),
@@ -162,7 +162,7 @@ fn ticket_addresses(
 fn reply_addresses(
     addresses: Option<&HostAddresses>,
 ) -> Result<Option<ExplicitContextTag11<HostAddresses>>, AllocError>
-    ensures { IfOk result (λ caddr. caddr ≡ tagged_addresses (option_map (λ list. list.now) addresses.entry)) }
+    ensures { IfOk result (λ caddr. caddr ≡ tagged_addresses (option_copied addresses.entry)) }
 {
     match addresses {
         Some(addresses) => Ok(Some(ExplicitContextTag(copied(addresses)?))),
