@@ -133,7 +133,7 @@ has_old_till part = (option_map (λ tagged. tagged.0.0) part.renew_till.0, by pa
     by (Some tagged) = refl
 
 -- with a renew-till there is a reply
-pub has_tilled : (wanted : Option ℕ) (grant : Option GeneralizedTime → GrantRecord) (under : ReplyKeyRecord) (service : AccountRecord) (words : List ℕ) → (own : Option GeneralizedTime) × IsTill wanted own
+pub has_tilled : (wanted : Option ℕ) (grant : Option GeneralizedTime → GrantRecord) (under : ReplyKeyRecord) (service : AccountRecord) (words : List ℕ) → ((own : Option GeneralizedTime) × IsTill wanted own)
     → length under.key ≡ cipher_key_size under.suite → IsBytes under.key → IsKeyed service → 128 ≤ length words → IsBytes words → ((till : Option GeneralizedTime) → IsWritten under.exchange (grant till))
     → HasOutcome (make (IsTill wanted) (sole_till wanted) (λ till. replied (grant till) under service words))
 has_tilled wanted grant under service words own sized key_bytes service_key long random_bytes written =

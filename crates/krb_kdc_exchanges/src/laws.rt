@@ -37,8 +37,8 @@ pub fn has_reply<P: Pkinit>(pkinit: &P)
 /// but initial and pre-authent and no renew-till, whatever the request asks for. It does nothing when it runs: its contract is the law.
 pub fn as_before<P: Pkinit>(pkinit: &P)
     ensures first { (call : CallRecord) (of_client of_service : Option AccountRecord) (request : KdcReq) (r : Result (List ℕ) ℕ)
-        → (as_table (without_policy call) (P.rows pkinit.now) of_client of_service request).gives r
-        ↔ (plain_as_table (without_policy call) (P.rows pkinit.now) of_client of_service request).gives r }
+        → ((as_table (without_policy call) (P.rows pkinit.now) of_client of_service request).gives r
+        ↔ (plain_as_table (without_policy call) (P.rows pkinit.now) of_client of_service request).gives r) }
     ensures further { (call : CallRecord) (request : KdcReq) (r : Result (List ℕ) ℕ)
-        → (tgs_table (without_policy call) request).gives r ↔ (plain_tgs_table (without_policy call) request).gives r }
+        → ((tgs_table (without_policy call) request).gives r ↔ (plain_tgs_table (without_policy call) request).gives r) }
 {}

@@ -14,7 +14,8 @@
 //! the body is a part of the request's own bytes (laws `body_is_part`, `as_body_is_part`), and so is the first padata of a type in an AS
 //! request (law `padata_is_part`). `as_reply` and `tgs_reply` give a reply that the table allows: a ticket, or a KRB-ERROR with its code.
 //! They also give its outcome: what is granted, or the code (`IsOutcome`). A message has one reply at most, and a request has one (laws
-//! `one_reply`, `has_reply`). The reply depends on the involved accounts alone (law `of_involved_alone`).
+//! `one_reply`, `has_reply`). The reply depends on the involved accounts alone (law `of_involved_alone`). Where a realm sets no policy, its
+//! tables are those without one (law `as_before`).
 #![tactic(auto)]
 
 mod answer;

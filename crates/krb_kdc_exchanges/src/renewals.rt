@@ -94,5 +94,9 @@ pub(crate) fn life_of(part: &EncTicketPartInner) -> u64
     ensures value { result ≡ life_of part.now }
     ensures at_most { result ≤ last_second }
 {
-    part.endtime.0.0.seconds().saturating_sub(starttime_of(part).seconds())
+    part.endtime
+        .0
+        .0
+        .seconds()
+        .saturating_sub(starttime_of(part).seconds())
 }

@@ -41,7 +41,7 @@ unknown_policy skew lifetime policy other = rw other (by (in_range skew lifetime
     by false = refl
 
 -- The policy is read as it was written.
-one_if : Bool → ℕ
+abbrev one_if : Bool → ℕ
 one_if is = number_if is 1
 
 one_most : (is : Bool) → one_if is ≤ 1

@@ -44,8 +44,10 @@ pub(crate) fn ticket_part(
     let names = (grant.realm, (grant.client, ())).copied();
     let transited = no_realms(alloc);
     let caddr = ticket_addresses(grant.addresses);
-    let ((flags, key), (names, (transited, caddr))) =
-        both(both(flags, key), both(names, both(transited, caddr)))?;
+    let ((flags, key), (names, (transited, caddr))) = both(
+        both(flags, key),
+        both(names, both(transited, caddr)),
+    )?;
     Ok(EncTicketPartInner {
         flags: ExplicitContextTag(flags),
         key: ExplicitContextTag(key),
@@ -71,8 +73,10 @@ pub(crate) fn reply_part(alloc: Global, grant: &Grant<'_>) -> Result<EncKdcRepPa
     let flags = flags_of(alloc, grant.flags);
     let copies = (grant.nonce, (grant.realm, (grant.service, ()))).copied();
     let caddr = reply_addresses(grant.addresses);
-    let ((key, last_req), (flags, (copies, caddr))) =
-        both(both(key, last_req), both(flags, both(copies, caddr)))?;
+    let ((key, last_req), (flags, (copies, caddr))) = both(
+        both(key, last_req),
+        both(flags, both(copies, caddr)),
+    )?;
     Ok(EncKdcRepPart {
         key: ExplicitContextTag(key),
         last_req: ExplicitContextTag(last_req),

@@ -56,7 +56,15 @@ pub(crate) fn grant(
 {
     let asked = asked_options(call.settings.policy(), &body.kdc_options.0);
     check_options(call, asked, opened.part, service_name)?;
-    grant_in(alloc, call, opened, asked.renews, service_name, service, body)
+    grant_in(
+        alloc,
+        call,
+        opened,
+        asked.renews,
+        service_name,
+        service,
+        body,
+    )
 }
 
 // Makes the reply, where the options allow it. A renewed ticket has times of its own.

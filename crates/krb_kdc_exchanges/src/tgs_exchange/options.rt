@@ -4,9 +4,9 @@ ghost use Rattle.krb_kdc_exchanges.specs.Call.{call_of};
 ghost use Rattle.krb_kdc_exchanges.specs.TgsTable.{by_options, is_granting};
 ghost use Rattle.krb_messages.specs.Refusals.{IsJudged};
 
+use crate::Call;
 use crate::options::AskedOptions;
 use crate::renewals::{is_outlived, is_renewable};
-use crate::Call;
 use krb_constants::{error_codes, ticket_flags};
 use krb_messages::data_types::{EncTicketPartInner, PrincipalName};
 use krb_messages::{Refusal, krbtgt};
@@ -35,11 +35,11 @@ pub(crate) fn check_options(
     if asked.renews && is_outlived(call.moment, part) {
         return Err(Refusal::Krb(error_codes::KRB_AP_ERR_TKT_EXPIRED));
     }
-    let is_granting = is_granting(call.realm, service_name.name_string.0.as_slice());
-    if (asked.renews || asked.forwards) && !is_granting {
+    let granting = is_granting(call.realm, service_name.name_string.0.as_slice());
+    if (asked.renews || asked.forwards) && !granting {
         return Err(Refusal::Krb(error_codes::KDC_ERR_SERVER_NOMATCH));
     }
-    if asked.proxies && is_granting {
+    if asked.proxies && granting {
         return Err(Refusal::Krb(error_codes::KDC_ERR_BADOPTION));
     }
     Ok(())

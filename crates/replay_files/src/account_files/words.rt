@@ -71,8 +71,16 @@ fn words_of_realm(alloc: Global, realm: &RealmParameters) -> anyhow::Result<Stri
 
 /// Returns the words for a policy, each behind a space. There is none where no policy is set.
 fn policy_words(alloc: Global, policy: Policy) -> anyhow::Result<String> {
-    let limits = if policy.limits_des3 { " limits-des3" } else { "" };
-    let forwardable = if policy.forwardable { " forwardable" } else { "" };
+    let limits = if policy.limits_des3 {
+        " limits-des3"
+    } else {
+        ""
+    };
+    let forwardable = if policy.forwardable {
+        " forwardable"
+    } else {
+        ""
+    };
     let proxiable = if policy.proxiable { " proxiable" } else { "" };
     let life = policy.renewable_life;
     if life == 0 {
