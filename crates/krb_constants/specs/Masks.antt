@@ -1,7 +1,7 @@
 -- The bits of flags as octets (RFC 4120, section 5.2.8): bit 0 is the most significant one of the first octet.
 use Rattle.std.specs.Prelude.{◌≡◌, refl}
 use Rattle.krb_constants.specs.declared.ap_options.TheConstants.{MUTUAL_REQUIRED_MASK}
-use Rattle.krb_constants.specs.declared.ticket_flags.TheConstants.{FORWARDABLE_MASK, FORWARDED_MASK, INITIAL_MASK, PRE_AUTHENT_MASK, PROXIABLE_MASK, PROXY_MASK, RENEWABLE_MASK}
+use Rattle.krb_constants.specs.declared.ticket_flags.TheConstants.{INITIAL_MASK, PRE_AUTHENT_MASK}
 
 mutual_required : MUTUAL_REQUIRED_MASK ≡ 0x20
 mutual_required = refl
@@ -11,18 +11,3 @@ initial = refl
 
 pre_authent : PRE_AUTHENT_MASK ≡ 0x20
 pre_authent = refl
-
-forwardable : FORWARDABLE_MASK ≡ 0x40
-forwardable = refl
-
-forwarded : FORWARDED_MASK ≡ 0x20
-forwarded = refl
-
-proxiable : PROXIABLE_MASK ≡ 0x10
-proxiable = refl
-
-proxy : PROXY_MASK ≡ 0x08
-proxy = refl
-
-renewable : RENEWABLE_MASK ≡ 0x80
-renewable = refl

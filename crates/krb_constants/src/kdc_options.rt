@@ -1,25 +1,13 @@
 //! The bits of kdc-options that a realm looks at (RFC 4120, section 5.4.1).
 
-/// A forwardable ticket.
-pub const FORWARDABLE: usize = 1;
-
 /// A ticket with another address, by a forwardable one.
 pub const FORWARDED: usize = 2;
-
-/// A proxiable ticket.
-pub const PROXIABLE: usize = 3;
 
 /// A ticket with another address, by a proxiable one.
 pub const PROXY: usize = 4;
 
 /// A ticket that starts later.
 pub const POSTDATED: usize = 6;
-
-/// A renewable ticket.
-pub const RENEWABLE: usize = 8;
-
-/// A renewable ticket, where the requested lifetime isn't granted otherwise.
-pub const RENEWABLE_OK: usize = 27;
 
 /// A ticket under the session key of another one.
 pub const ENC_TKT_IN_SKEY: usize = 28;

@@ -9,7 +9,9 @@ use Rattle.krb_crypto.specs.declared.suite.CipherSuite.{CipherSuite}
 use Rattle.krb_realm_accounts.specs.Account.{AccountRecord}
 use Rattle.krb_realm_accounts.specs.declared.policy.TheConstants.{NO_POLICY}
 use Rattle.krb_constants.specs.declared.kdc_options.TheConstants as option
-use Rattle.krb_constants.specs.declared.ticket_flags.TheConstants as flag
+use Rattle.krb_constants.specs.declared.ticket_flags.TheConstants.{PRE_AUTHENT}
+use Rattle.krb_tickets.specs.declared.flag_bits.TheConstants as flag
+use Rattle.krb_kdc_exchanges.specs.declared.option_bits.TheConstants as option_bit
 use Rattle.krb_messages.specs.Names.{components}
 use Rattle.krb_messages.specs.Padata.{padata_in}
 use Rattle.krb_messages.specs.TicketGranting.{krbtgt_of}
@@ -77,18 +79,18 @@ no_till span old asked till is = no_time till (subst (λ wanted. IsTill wanted t
 -- and no flag but initial and pre-authent
 same_initial_flags : (options : Bits) → initial_flags NO_POLICY options None ≡ plain_flags true true
 same_initial_flags options = λ i. record (plain_flags true true) {
-  forwardable = and_no (bit_of options option.FORWARDABLE) i;
-  proxiable = and_no (bit_of options option.PROXIABLE) i;
+  forwardable = and_no (bit_of options option_bit.FORWARDABLE) i;
+  proxiable = and_no (bit_of options option_bit.PROXIABLE) i;
 }
 
-same_further_flags : (part : EncTicketPartInner) (body : KdcReqBody) → granted_flags NO_POLICY part body None ≡ plain_flags false (bit_of part.flags.0 flag.PRE_AUTHENT)
+same_further_flags : (part : EncTicketPartInner) (body : KdcReqBody) → granted_flags NO_POLICY part body None ≡ plain_flags false (bit_of part.flags.0 PRE_AUTHENT)
 same_further_flags part body =
     let options : Bits = body.kdc_options.0 in
     let old : Bits = part.flags.0 in
-    λ i. record (plain_flags false (bit_of old flag.PRE_AUTHENT)) {
-      forwardable = and_no (bit_of options option.FORWARDABLE && bit_of old flag.FORWARDABLE) i;
+    λ i. record (plain_flags false (bit_of old PRE_AUTHENT)) {
+      forwardable = and_no (bit_of options option_bit.FORWARDABLE && bit_of old flag.FORWARDABLE) i;
       forwarded = and_no (bit_of options option.FORWARDED) i || and_no (bit_of old flag.FORWARDED) i;
-      proxiable = and_no (bit_of options option.PROXIABLE && bit_of old flag.PROXIABLE) i;
+      proxiable = and_no (bit_of options option_bit.PROXIABLE && bit_of old flag.PROXIABLE) i;
       proxy = and_no (bit_of options option.PROXY) i;
     }
 

@@ -6,7 +6,7 @@ use Rattle.block_ciphers.specs.Bytes.{IsBytes}
 use Rattle.asn1_leaves.specs.GeneralizedTime.{seconds_of}
 use Rattle.asn1_leaves.specs.declared.date.GeneralizedTime.{GeneralizedTime}
 use Rattle.picky_asn1.specs.BitString.{bit_of}
-use Rattle.krb_constants.specs.declared.ticket_flags.TheConstants as flag
+use Rattle.krb_tickets.specs.declared.flag_bits.TheConstants as flag
 use Rattle.krb_time.specs.Moment.{IsMoment}
 use Rattle.krb_realm_accounts.specs.declared.policy.Policy.{Policy}
 use Rattle.picky_asn1.specs.Numbers.{is_number}

@@ -4,7 +4,7 @@ use Rattle.std.specs.Option.{is_some}
 use Rattle.picky_asn1.specs.BitString.{Bits, bit_of}
 use Rattle.picky_asn1.specs.Bytes.{Bytes}
 use Rattle.asn1_leaves.specs.declared.date.GeneralizedTime.{GeneralizedTime}
-use Rattle.krb_constants.specs.declared.kdc_options.TheConstants.{FORWARDABLE, PROXIABLE}
+use Rattle.krb_kdc_exchanges.specs.declared.option_bits.TheConstants.{FORWARDABLE, PROXIABLE}
 use Rattle.krb_time.specs.Units.{Seconds}
 use Rattle.krb_realm_accounts.specs.Account.{AccountRecord}
 use Rattle.krb_realm_accounts.specs.declared.policy.Policy.{Policy}

@@ -6,8 +6,8 @@ use Rattle.picky_asn1.specs.BitString.{bit_of}
 use Rattle.asn1_leaves.specs.GeneralizedTime.{seconds_of}
 use Rattle.asn1_leaves.specs.declared.date.GeneralizedTime.{GeneralizedTime}
 use Rattle.asn1_leaves.proofs.TimeLemmas.{seconds_of-injective}
-use Rattle.krb_constants.specs.declared.kdc_options.TheConstants.{RENEWABLE, RENEWABLE_OK}
-use Rattle.krb_constants.specs.declared.ticket_flags.TheConstants as flag
+use Rattle.krb_kdc_exchanges.specs.declared.option_bits.TheConstants.{RENEWABLE, RENEWABLE_OK}
+use Rattle.krb_tickets.specs.declared.flag_bits.TheConstants as flag
 use Rattle.krb_time.specs.Units.{Micros, Seconds}
 use Rattle.krb_messages.specs.declared.data_types.enc_ticket_part.EncTicketPartInner.{EncTicketPartInner}
 use Rattle.krb_messages.specs.declared.messages.kdc_req_body.KdcReqBody.{KdcReqBody}

@@ -31,8 +31,7 @@ use Rattle.krb_constants.specs.declared.error_codes.TheConstants.{KDC_ERR_C_PRIN
 use Rattle.krb_constants.specs.KeyUsages.{key_usage}
 use Rattle.krb_constants.specs.declared.key_usages.TheConstants.{TGS_REQ_PA_DATA_AP_REQ_AUTHENTICATOR, TGS_REQ_PA_DATA_AP_REQ_AUTHENTICATOR_CKSUM}
 use Rattle.krb_constants.specs.declared.padata_types.TheConstants.{PA_TGS_REQ}
-use Rattle.krb_constants.specs.declared.kdc_options.TheConstants as option
-use Rattle.krb_constants.specs.declared.ticket_flags.TheConstants as flag
+use Rattle.krb_constants.specs.declared.ticket_flags.TheConstants.{PRE_AUTHENT}
 use Rattle.krb_constants.specs.declared.types.TheConstants.{TGS_REQ_MSG_TYPE}
 use Rattle.krb_tickets.specs.Keys.{suite_of}
 use Rattle.krb_messages.specs.declared.messages.ap_req.ApReqInner.{ApReqInner}
@@ -42,6 +41,7 @@ use Rattle.krb_messages.specs.Messages.{IsApReq, sole_ap_req}
 use Rattle.decision_tables.specs.Tables.{Table, and_then, ask, done, make, need, refuse}
 use Rattle.krb_messages.specs.Padata.{first_of}
 use Rattle.krb_tickets.specs.Grant.{GrantRecord}
+use Rattle.krb_tickets.specs.declared.flag_bits.TheConstants as flag
 use Rattle.krb_tickets.specs.declared.grant.TicketFlags.{TicketFlags}
 use Rattle.krb_tickets.specs.Parts.{session_key_of}
 use Rattle.krb_tickets.specs.ReplyKeys.{ReplyKeyRecord, tgs_reply_key, tgs_subkey_reply_key}
@@ -53,6 +53,7 @@ use Rattle.krb_kdc_exchanges.specs.Options.{asked_options, has_option_beyond}
 use Rattle.krb_kdc_exchanges.specs.Renewals.{IsTill, asked_till, granted_till, is_outlived, is_renewable, life_of, renew_till_of, sole_till}
 use Rattle.krb_kdc_exchanges.specs.Requests.{body_of, header_rows, lasting, lasting_to, service_of}
 use Rattle.krb_kdc_exchanges.specs.Times.{no_end}
+use Rattle.krb_kdc_exchanges.specs.declared.option_bits.TheConstants as option
 use Rattle.krb_kdc_exchanges.specs.declared.options.AskedOptions.{AskedOptions}
 use Rattle.krb_messages.specs.Padata.{padata_in}
 use Rattle.krb_messages.specs.Bodies.{body_bytes}
@@ -238,7 +239,7 @@ further_flags policy asked options old till = record {
   proxy = asked.proxies;
   renewable = is_some till;
   initial = false;
-  pre_authenticated = bit_of old flag.PRE_AUTHENT;
+  pre_authenticated = bit_of old PRE_AUTHENT;
 }
 
 -- the flags of what a request with these options is granted by the presented ticket

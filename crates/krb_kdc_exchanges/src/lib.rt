@@ -27,6 +27,7 @@ mod granted;
 mod kdc_error;
 pub mod laws;
 mod names;
+pub mod option_bits;
 mod options;
 mod pkinit;
 mod pkinit_call;

@@ -1,5 +1,7 @@
 //! The options of a TGS request that a realm's policy allows or not.
-ghost use Rattle.std.specs.Prelude.{◌≡◌};
+ghost use Rattle.std.specs.Prelude.{◌≡◌, ◌&&◌, not};
+ghost use Rattle.picky_asn1.specs.BitString.{bit_of};
+ghost use Rattle.krb_constants.specs.declared.kdc_options.TheConstants.{RENEW};
 ghost use Rattle.krb_kdc_exchanges.specs.Options.{asked_options, grants_renewable, has_option_beyond};
 
 use krb_constants::kdc_options;
@@ -24,14 +26,42 @@ fn grants_renewable(policy: Policy) -> bool
     0 < policy.renewable_life
 }
 
+/// Whether the option is set and allowed.
+pub(crate) fn is_allowed(options: &BitStringAsn1, option: usize, allowed: bool) -> bool
+    ensures { result ≡ (bit_of options.now option && allowed) }
+{
+    options.bit(option) && allowed
+}
+
+// Whether the option is set and not allowed.
+fn is_beyond(options: &BitStringAsn1, option: usize, allowed: bool) -> bool
+    ensures { result ≡ (bit_of options.now option && not allowed) }
+{
+    options.bit(option) && !allowed
+}
+
+// Whether renew is set and allowed.
+fn renews(policy: Policy, options: &BitStringAsn1) -> bool
+    ensures { result ≡ (bit_of options.now RENEW && grants_renewable policy) }
+{
+    options.bit(kdc_options::RENEW) && grants_renewable(policy)
+}
+
+// Whether renew is set and not allowed.
+fn renews_beyond(policy: Policy, options: &BitStringAsn1) -> bool
+    ensures { result ≡ (bit_of options.now RENEW && not (grants_renewable policy)) }
+{
+    options.bit(kdc_options::RENEW) && !grants_renewable(policy)
+}
+
 /// What these options of a TGS request ask for, as far as the policy allows it.
 pub(crate) fn asked_options(policy: Policy, options: &BitStringAsn1) -> AskedOptions
     ensures { result ≡ asked_options policy options.now }
 {
     AskedOptions {
-        forwards: options.bit(kdc_options::FORWARDED) && policy.forwardable,
-        proxies: options.bit(kdc_options::PROXY) && policy.proxiable,
-        renews: options.bit(kdc_options::RENEW) && grants_renewable(policy),
+        forwards: is_allowed(options, kdc_options::FORWARDED, policy.forwardable),
+        proxies: is_allowed(options, kdc_options::PROXY, policy.proxiable),
+        renews: renews(policy, options),
     }
 }
 
@@ -40,9 +70,9 @@ pub(crate) fn asked_options(policy: Policy, options: &BitStringAsn1) -> AskedOpt
 pub(crate) fn has_option_beyond(policy: Policy, options: &BitStringAsn1) -> bool
     ensures { result ≡ has_option_beyond policy options.now }
 {
-    (options.bit(kdc_options::FORWARDED) && !policy.forwardable)
-        || (options.bit(kdc_options::PROXY) && !policy.proxiable)
+    is_beyond(options, kdc_options::FORWARDED, policy.forwardable)
+        || is_beyond(options, kdc_options::PROXY, policy.proxiable)
         || options.bit(kdc_options::ENC_TKT_IN_SKEY)
-        || (options.bit(kdc_options::RENEW) && !grants_renewable(policy))
+        || renews_beyond(policy, options)
         || options.bit(kdc_options::VALIDATE)
 }

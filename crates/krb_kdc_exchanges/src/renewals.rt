@@ -1,17 +1,17 @@
 //! Renewable tickets, and the times of what is presented to be renewed (RFC 4120, sections 2.3, 3.1.3, 3.3.3).
-ghost use Rattle.std.specs.Prelude.{◌≡◌, ◌≤◌};
+ghost use Rattle.std.specs.Prelude.{◌≡◌, ◌≤◌, ◌&&◌, nat_lt};
 ghost use Rattle.std.specs.Option.{option_map};
 ghost use Rattle.asn1_leaves.specs.GeneralizedTime.{seconds_of};
-ghost use Rattle.krb_kdc_exchanges.specs.Renewals.{IsTill, asked_till, granted_till, is_outlived, is_renewable, life_of, renew_till_of, rtime_of};
+ghost use Rattle.krb_kdc_exchanges.specs.Renewals.{IsTill, asked_till, granted_till, is_outlived, is_renewable, life_of, renew_till_of, rtime_of, till_behind, till_limit};
 ghost use Rattle.krb_kdc_exchanges.specs.Times.{last_second};
 
 use crate::span::Span;
-use crate::start_of;
 use crate::times::{asked_end, old_end};
+use crate::{option_bits, start_of};
 use krb_ap_requests::starttime_of;
-use krb_constants::{kdc_options, ticket_flags};
 use krb_messages::data_types::EncTicketPartInner;
 use krb_messages::messages::KdcReqBody;
+use krb_tickets::flag_bits;
 use krb_time::{LAST_SECOND, Moment};
 use picky_asn1::date::GeneralizedTime;
 
@@ -30,10 +30,10 @@ pub(crate) fn asked_till(body: &KdcReqBody) -> Option<u64>
     ensures { result ≡ asked_till body.now }
 {
     let options = &body.kdc_options.0;
-    if options.bit(kdc_options::RENEWABLE) {
+    if options.bit(option_bits::RENEWABLE) {
         return Some(rtime_of(body));
     }
-    if options.bit(kdc_options::RENEWABLE_OK) {
+    if options.bit(option_bits::RENEWABLE_OK) {
         return Some(body.till.0.0.seconds());
     }
     None
@@ -52,14 +52,36 @@ pub(crate) fn granted_till(
     let Some(asked) = asked else {
         return None;
     };
+    let limit = till_limit(life, span.starttime, old);
+    till_behind(life, span.endtime, asked.min(limit))
+}
+
+// The greatest renew-till, in seconds.
+fn till_limit(life: u32, start: GeneralizedTime, old: Option<GeneralizedTime>) -> u64
+    ensures value { result ≡ till_limit life (seconds_of start) (option_map seconds_of old) }
+    ensures at_most { result ≤ last_second }
+{
     let old = old_end(old).min(LAST_SECOND);
-    let limit = (span.starttime.seconds() + u64::from(life)).min(old);
-    let till = asked.min(limit);
-    if 0 < life && span.endtime.seconds() < till {
+    (start.seconds() + u64::from(life)).min(old)
+}
+
+// The renew-till of these seconds, where it is after the endtime and tickets are renewable.
+fn till_behind(life: u32, end: GeneralizedTime, till: u64) -> Option<GeneralizedTime>
+    requires { till ≤ last_second }
+    ensures { IsTill (till_behind life (seconds_of end) till) result }
+{
+    if is_behind(life, end, till) {
         Some(GeneralizedTime::from_seconds(till))
     } else {
         None
     }
+}
+
+// Whether these seconds are after the endtime, and tickets are renewable.
+fn is_behind(life: u32, end: GeneralizedTime, till: u64) -> bool
+    ensures { result ≡ (nat_lt 0 life && nat_lt (seconds_of end) till) }
+{
+    0 < life && end.seconds() < till
 }
 
 /// The presented ticket's renew-till.
@@ -76,7 +98,7 @@ pub(crate) fn renew_till_of(part: &EncTicketPartInner) -> Option<GeneralizedTime
 pub(crate) fn is_renewable(part: &EncTicketPartInner) -> bool
     ensures { result ≡ is_renewable part.now }
 {
-    part.flags.0.bit(ticket_flags::RENEWABLE) && part.renew_till.0.is_some()
+    part.flags.0.bit(flag_bits::RENEWABLE) && part.renew_till.0.is_some()
 }
 
 /// Whether the presented ticket's renew-till isn't after now.

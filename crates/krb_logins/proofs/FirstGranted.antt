@@ -74,7 +74,7 @@ module _ (call : CallRecord) (suite : CipherSuite) (body : KdcReqBody) where
       (own.0, own.1, past_refuse {T = Span} {E = ℕ} (not (is_listed suite body)) 14 (done (Ok own.0)) r (ap not listed) own.2)
 
 -- seconds of none are no time's
-pub pub no_time : (till : Option GeneralizedTime) → IsTill None till → till ≡ None
+pub no_time : (till : Option GeneralizedTime) → IsTill None till → till ≡ None
 no_time None is = refl
 no_time (Some time) is = absurd (cc (is))
 

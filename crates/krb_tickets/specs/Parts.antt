@@ -9,7 +9,7 @@ use Rattle.krb_crypto.specs.declared.suite.CipherSuite.{CipherSuite}
 use Rattle.krb_crypto.specs.Sealing.{seed_key_of}
 use Rattle.krb_crypto.specs.Suites.{cipher_seed_size}
 use Rattle.krb_constants.specs.declared.padata_types.TheConstants.{PA_PK_AS_REP}
-use Rattle.krb_constants.specs.declared.ticket_flags.TheConstants.{FORWARDABLE_MASK, FORWARDED_MASK, INITIAL_MASK, PRE_AUTHENT_MASK, PROXIABLE_MASK, PROXY_MASK, RENEWABLE_MASK}
+use Rattle.krb_constants.specs.declared.ticket_flags.TheConstants.{INITIAL_MASK, PRE_AUTHENT_MASK}
 use Rattle.krb_constants.specs.declared.types.TheConstants.{AS_REP_MSG_TYPE, KERBEROS_VERSION, TGS_REP_MSG_TYPE}
 use Rattle.krb_messages.specs.declared.data_types.encrypted_data.EncryptedData.{EncryptedData}
 use Rattle.krb_messages.specs.declared.data_types.enc_ticket_part.EncTicketPartInner.{EncTicketPartInner}
@@ -25,6 +25,7 @@ use Rattle.picky_asn1_der.specs.declared.wrapper.ExplicitContextTag.{ExplicitCon
 use Rattle.krb_messages.specs.declared.data_types.pa_data.PaData.{PaData}
 use Rattle.krb_tickets.specs.MethodData.{pa_data_of}
 use Rattle.krb_tickets.specs.Grant.{GrantRecord}
+use Rattle.krb_tickets.specs.declared.flag_bits.TheConstants.{FORWARDABLE_MASK, FORWARDED_MASK, PROXIABLE_MASK, PROXY_MASK, RENEWABLE_MASK}
 use Rattle.krb_tickets.specs.declared.grant.TicketFlags.{TicketFlags}
 use Rattle.krb_tickets.specs.declared.parts.TheConstants.{DOMAIN_X500_COMPRESS, NO_LAST_REQUEST}
 use Rattle.krb_tickets.specs.declared.reply.Exchange.{Exchange}

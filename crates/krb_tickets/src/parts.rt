@@ -5,11 +5,11 @@ ghost use Rattle.krb_tickets.specs.Grant.{grant_of};
 ghost use Rattle.krb_tickets.specs.Parts.{flags_octet, flags_of, front_octet, last_requests, masked, no_realms, reply_part, tagged_addresses, tagged_till, ticket_part};
 
 use crate::encryption_key;
-use crate::grant::{Grant, TicketFlags};
-use krb_constants::ticket_flags::{
-    FORWARDABLE_MASK, FORWARDED_MASK, INITIAL_MASK, PRE_AUTHENT_MASK, PROXIABLE_MASK, PROXY_MASK,
-    RENEWABLE_MASK,
+use crate::flag_bits::{
+    FORWARDABLE_MASK, FORWARDED_MASK, PROXIABLE_MASK, PROXY_MASK, RENEWABLE_MASK,
 };
+use crate::grant::{Grant, TicketFlags};
+use krb_constants::ticket_flags::{INITIAL_MASK, PRE_AUTHENT_MASK};
 use krb_messages::data_types::{
     EncTicketPartInner, HostAddresses, KerberosFlags, KerberosTime, LastReq, LastReqInner,
     TransitedEncoding,
@@ -156,10 +156,11 @@ fn ticket_addresses(
 ) -> Result<Option<ExplicitContextTag9<HostAddresses>>, AllocError>
     ensures { IfOk result (λ caddr. caddr ≡ tagged_addresses (option_copied addresses.entry)) }
 {
-    match addresses {
-        Some(addresses) => Ok(Some(ExplicitContextTag(copied(addresses)?))),
-        None => Ok(None),
-    }
+    let Some(list) = addresses else {
+        return Ok(None);
+    };
+    let caddr = copied(list)?;
+    Ok(Some(ExplicitContextTag(caddr)))
 }
 
 // caddr as a field of the reply's part.
@@ -168,10 +169,11 @@ fn reply_addresses(
 ) -> Result<Option<ExplicitContextTag11<HostAddresses>>, AllocError>
     ensures { IfOk result (λ caddr. caddr ≡ tagged_addresses (option_copied addresses.entry)) }
 {
-    match addresses {
-        Some(addresses) => Ok(Some(ExplicitContextTag(copied(addresses)?))),
-        None => Ok(None),
-    }
+    let Some(list) = addresses else {
+        return Ok(None);
+    };
+    let caddr = copied(list)?;
+    Ok(Some(ExplicitContextTag(caddr)))
 }
 
 // Makes the transited encoding that names no realm.

@@ -6,6 +6,7 @@ ghost use Rattle.krb_messages.specs.contracts.data_types.checksum.Checksum.{the_
 ghost use Rattle.krb_messages.specs.contracts.data_types.encryption_key.EncryptionKey.{the_type as encryption_key_type};
 ghost use Rattle.krb_messages.specs.contracts.data_types.authenticator.AuthenticatorInner.{the_type as authenticator_type};
 ghost use Rattle.krb_messages.specs.contracts.data_types.enc_ap_rep_part.EncApRepPartInner.{the_type as enc_ap_rep_part_type};
+ghost use Rattle.krb_messages.specs.contracts.data_types.host_address.HostAddress.{the_type as host_address_type};
 ghost use Rattle.krb_messages.specs.contracts.data_types.transited_encoding.TransitedEncoding.{the_type as transited_encoding_type};
 ghost use Rattle.krb_messages.specs.contracts.data_types.enc_ticket_part.EncTicketPartInner.{the_type as enc_ticket_part_type};
 ghost use Rattle.krb_messages.specs.contracts.data_types.encrypted_data.EncryptedData.{the_type as encrypted_data_type};
@@ -61,7 +62,7 @@ impl Copies for EncApRepPartInner {
 }
 
 impl Copies for HostAddress {
-    ghost is_copy = { equal };
+    ghost is_copy = { fields host_address_type (both (explicit_tag equal) (last (explicit_tag equal))) };
 }
 
 impl Copies for TransitedEncoding {

@@ -11,9 +11,9 @@ ghost use Rattle.krb_tickets.specs.Grant.{grant_of};
 
 use crate::as_exchange::judge::Preauthentication;
 use crate::granted::{Granted, granted_reply};
+use crate::options::is_allowed;
 use crate::renewals::{asked_till, granted_till};
-use crate::{Call, Span, session_key};
-use krb_constants::kdc_options;
+use crate::{Call, Span, option_bits, session_key};
 use krb_messages::data_types::PrincipalName;
 use krb_messages::messages::KdcReqBody;
 use krb_realm_accounts::{Account, Policy};
@@ -70,8 +70,19 @@ fn reply_key_by<'a>(authenticated: &'a Preauthentication, client: &'a Account) -
 fn initial_till(call: &Call<'_>, span: Span, body: &KdcReqBody) -> Option<GeneralizedTime>
     ensures { IsTill (initial_till (call_of call.now) span body.now) result }
 {
-    let life = call.settings.policy().renewable_life;
-    granted_till(life, span, None, asked_till(body))
+    granted_till(
+        call.settings.policy().renewable_life,
+        span,
+        None,
+        asked_till(body),
+    )
+}
+
+// The flags of the first ticket, by the realm's policy.
+fn first_flags(call: &Call<'_>, body: &KdcReqBody, till: Option<GeneralizedTime>) -> TicketFlags
+    ensures { result ≡ initial_flags call.now.settings.policy body.now.kdc_options.0 till }
+{
+    initial_flags(call.settings.policy(), &body.kdc_options.0, till)
 }
 
 // The flags of the first ticket: forwardable and proxiable where the options ask for it and the policy allows it.
@@ -83,9 +94,9 @@ fn initial_flags(
     ensures { result ≡ initial_flags policy options.now till }
 {
     TicketFlags {
-        forwardable: options.bit(kdc_options::FORWARDABLE) && policy.forwardable,
+        forwardable: is_allowed(options, option_bits::FORWARDABLE, policy.forwardable),
         forwarded: false,
-        proxiable: options.bit(kdc_options::PROXIABLE) && policy.proxiable,
+        proxiable: is_allowed(options, option_bits::PROXIABLE, policy.proxiable),
         proxy: false,
         renewable: till.is_some(),
         initial: true,
@@ -107,7 +118,7 @@ fn initial_grant<'a>(
 {
     let suite = principals.client.suite();
     let session = session_key(alloc, suite, call.words)?;
-    let flags = initial_flags(call.settings.policy(), &body.kdc_options.0, till);
+    let flags = first_flags(call, body, till);
     Ok(Grant {
         suite,
         session,

@@ -4,11 +4,17 @@ ghost use Rattle.krb_messages.specs.RandomBytes.{AreEnoughForReply};
 ghost use Rattle.krb_kdc_exchanges.specs.AsTable.{authenticated, authenticated_by, is_later, is_listed, possible, timestamped};
 ghost use Rattle.krb_kdc_exchanges.specs.Preauthentication.{reply_key_as};
 ghost use Rattle.krb_kdc_exchanges.specs.Call.{call_of};
+ghost use Rattle.krb_kdc_exchanges.specs.Requests.{body_of, has_refused_option, header_rows};
 ghost use Rattle.krb_messages.specs.Refusals.{IsJudged};
 
-use crate::{Agreed, Call, Pkinit, PkinitCall, Span, lasting, moment_of, open_encrypted_timestamp};
+use crate::requests::has_refused_option;
+use crate::{
+    Agreed, Call, Pkinit, PkinitCall, Span, check_header, lasting, moment_of,
+    open_encrypted_timestamp,
+};
 use krb_constants::error_codes;
 use krb_constants::padata_types::{PA_ENC_TIMESTAMP, PA_PK_AS_REQ};
+use krb_constants::types::AS_REQ_MSG_TYPE;
 use krb_crypto::diffie_hellman::agreed_key;
 use krb_crypto::{CipherSuite, Key};
 use krb_messages::data_types::PaData;
@@ -17,6 +23,14 @@ use krb_messages::{Refusal, first_of, is_number, padata_in};
 use krb_realm_accounts::Account;
 use picky_asn1::wrapper::GeneralStringAsn1;
 use std::alloc::Global;
+
+/// Judges the request's header, by the options that an AS request can't have.
+pub(crate) fn check_request(realm: &GeneralStringAsn1, request: &KdcReq) -> Result<(), Refusal>
+    ensures { IsJudged (header_rows AS_REQ_MSG_TYPE realm.now (has_refused_option (body_of request.now).kdc_options.0) request.now).gives result }
+{
+    let is_refused = has_refused_option(&request.req_body.0.kdc_options.0);
+    check_header(AS_REQ_MSG_TYPE, realm, is_refused, request)
+}
 
 /// Judges the ticket's times, and whether `etype` lists the suite of the client's key.
 pub(crate) fn check_possible(

@@ -6,11 +6,9 @@ ghost use Rattle.krb_kdc_exchanges.specs.Call.{call_of};
 ghost use Rattle.krb_kdc_exchanges.specs.Granting.{IsGranted};
 
 use crate::as_exchange::grant::{Principals, grant};
-use crate::as_exchange::judge::{authenticate, check_possible};
-use crate::requests::has_refused_option;
-use crate::{Call, Granted, Pkinit, check_header, client_of, service_of};
+use crate::as_exchange::judge::{authenticate, check_possible, check_request};
+use crate::{Call, Granted, Pkinit, client_of, service_of};
 use krb_constants::error_codes;
-use krb_constants::types::AS_REQ_MSG_TYPE;
 use krb_messages::Refusal;
 use krb_messages::messages::KdcReq;
 use krb_realm_accounts::Account;
@@ -30,8 +28,7 @@ pub fn judge_as<P: Pkinit>(
     ensures { IsGranted (as_table (call_of call.now) (P.rows pkinit.now) (option_copied client.entry) (option_copied service.entry) request.now).gives result }
 {
     let body = &request.req_body.0;
-    let is_refused = has_refused_option(&body.kdc_options.0);
-    check_header(AS_REQ_MSG_TYPE, call.realm, is_refused, request)?;
+    check_request(call.realm, request)?;
     let Some(client_name) = client_of(body) else {
         return Err(Refusal::Krb(error_codes::KDC_ERR_C_PRINCIPAL_UNKNOWN));
     };

@@ -1,9 +1,13 @@
 //! Grants a service ticket by the presented ticket.
-ghost use Rattle.std.specs.Prelude.{◌≡◌, IfOk, false};
+ghost use Rattle.std.specs.Prelude.{◌≡◌, ◌&&◌, ◌||◌, IfOk, false};
 ghost use Rattle.std.specs.Option.{option_copied, option_map, option_map_or};
+ghost use Rattle.picky_asn1.specs.BitString.{bit_of};
+ghost use Rattle.krb_tickets.specs.declared.flag_bits.TheConstants as flag;
+ghost use Rattle.krb_kdc_exchanges.specs.declared.option_bits.TheConstants as option;
 ghost use Rattle.krb_messages.specs.RandomBytes.{AreEnoughForReply};
 ghost use Rattle.krb_kdc_exchanges.specs.Call.{call_of};
 ghost use Rattle.krb_kdc_exchanges.specs.Granting.{IsGranted};
+ghost use Rattle.krb_kdc_exchanges.specs.Options.{asked_options};
 ghost use Rattle.krb_tickets.specs.Grant.{grant_of};
 ghost use Rattle.krb_tickets.specs.ReplyKeys.{reply_key_of};
 ghost use Rattle.krb_crypto.specs.Keys.{KeyRecord};
@@ -14,9 +18,9 @@ use crate::granted::{Granted, granted_reply};
 use crate::options::{AskedOptions, asked_options};
 use crate::tgs_exchange::options::check_options;
 use crate::tgs_exchange::renewing::{further_lasting, further_till};
-use crate::{Call, Span, session_key};
+use crate::{Call, Span, option_bits, session_key};
 use krb_ap_requests::Authenticated;
-use krb_constants::{error_codes, kdc_options, ticket_flags};
+use krb_constants::{error_codes, ticket_flags};
 use krb_crypto::{CipherSuite, Key};
 use krb_messages::data_types::{
     AuthenticatorInner, EncTicketPartInner, EncryptionKey, HostAddresses, PrincipalName,
@@ -24,7 +28,7 @@ use krb_messages::data_types::{
 use krb_messages::messages::KdcReqBody;
 use krb_messages::{Refusal, is_number};
 use krb_realm_accounts::{Account, Policy};
-use krb_tickets::{Grant, ReplyKey, TicketFlags, key_of};
+use krb_tickets::{Grant, ReplyKey, TicketFlags, flag_bits, key_of};
 use picky_asn1::date::GeneralizedTime;
 use picky_asn1::wrapper::{BitStringAsn1, IntegerAsn1};
 use std::alloc::{AllocError, Global};
@@ -214,9 +218,8 @@ fn further_grant<'a>(
     ensures { IfOk result (λ grant. grant_of grant ≡ further_grant (call_of call.now) part.now service_name.now suite body.now span till) }
 {
     let session = session_key(alloc, suite, call.words)?;
-    let policy = call.settings.policy();
-    let asked = asked_options(policy, &body.kdc_options.0);
-    let flags = granted_flags(policy, part, body, till);
+    let flags = granted_flags(call, part, body, till);
+    let addresses = granted_addresses(call, body);
     Ok(Grant {
         suite,
         session,
@@ -228,20 +231,35 @@ fn further_grant<'a>(
         starttime: span.starttime,
         endtime: span.endtime,
         renew_till: till,
-        addresses: further_addresses(asked, body),
+        addresses,
         nonce: &body.nonce.0,
     })
+}
+
+// The addresses of what is granted.
+fn granted_addresses<'a>(call: &Call<'_>, body: &'a KdcReqBody) -> Option<&'a HostAddresses>
+    ensures { option_copied result ≡ further_addresses (asked_options call.now.settings.policy body.now.kdc_options.0) body.now }
+{
+    let asked = asked_options(call.settings.policy(), &body.kdc_options.0);
+    further_addresses(asked, body)
 }
 
 // The addresses of a request for a forwarded ticket or a proxy.
 fn further_addresses(asked: AskedOptions, body: &KdcReqBody) -> Option<&HostAddresses>
     ensures { option_copied result ≡ further_addresses asked body.now }
 {
-    if asked.forwards || asked.proxies {
+    if is_for_addresses(asked) {
         addresses_in(body)
     } else {
         None
     }
+}
+
+// Whether a forwarded ticket or a proxy is asked for.
+fn is_for_addresses(asked: AskedOptions) -> bool
+    ensures { result ≡ (asked.forwards || asked.proxies) }
+{
+    asked.forwards || asked.proxies
 }
 
 // The addresses of a request.
@@ -256,16 +274,16 @@ fn addresses_in(body: &KdcReqBody) -> Option<&HostAddresses>
 
 // The flags of what is granted by the presented ticket.
 fn granted_flags(
-    policy: Policy,
+    call: &Call<'_>,
     part: &EncTicketPartInner,
     body: &KdcReqBody,
     till: Option<GeneralizedTime>,
 ) -> TicketFlags
-    ensures { result ≡ granted_flags policy part.now body.now till }
+    ensures { result ≡ granted_flags call.now.settings.policy part.now body.now till }
 {
-    let options = &body.kdc_options.0;
-    let asked = asked_options(policy, options);
-    further_flags(policy, asked, options, &part.flags.0, till)
+    let policy = call.settings.policy();
+    let asked = asked_options(policy, &body.kdc_options.0);
+    further_flags(policy, asked, &body.kdc_options.0, &part.flags.0, till)
 }
 
 // The flags by the options and the presented ticket's flags: it is forwardable and proxiable as far as the presented ticket is.
@@ -278,16 +296,34 @@ fn further_flags(
 ) -> TicketFlags
     ensures { result ≡ further_flags policy asked options.now old.now till }
 {
-    let forwardable = options.bit(kdc_options::FORWARDABLE) && old.bit(ticket_flags::FORWARDABLE);
-    let proxiable = options.bit(kdc_options::PROXIABLE) && old.bit(ticket_flags::PROXIABLE);
-    let was_forwarded = old.bit(ticket_flags::FORWARDED) && policy.forwardable;
     TicketFlags {
-        forwardable: forwardable && policy.forwardable,
-        forwarded: asked.forwards || was_forwarded,
-        proxiable: proxiable && policy.proxiable,
+        forwardable: is_forwardable(policy, options, old),
+        forwarded: is_forwarded(policy, asked.forwards, old),
+        proxiable: is_proxiable(policy, options, old),
         proxy: asked.proxies,
         renewable: till.is_some(),
         initial: false,
         pre_authenticated: old.bit(ticket_flags::PRE_AUTHENT),
     }
+}
+
+// Whether the ticket is forwardable.
+fn is_forwardable(policy: Policy, options: &BitStringAsn1, old: &BitStringAsn1) -> bool
+    ensures { result ≡ ((bit_of options.now option.FORWARDABLE && bit_of old.now flag.FORWARDABLE) && policy.forwardable) }
+{
+    options.bit(option_bits::FORWARDABLE) && old.bit(flag_bits::FORWARDABLE) && policy.forwardable
+}
+
+// Whether the ticket is a forwarded one.
+fn is_forwarded(policy: Policy, forwards: bool, old: &BitStringAsn1) -> bool
+    ensures { result ≡ (forwards || (bit_of old.now flag.FORWARDED && policy.forwardable)) }
+{
+    forwards || (old.bit(flag_bits::FORWARDED) && policy.forwardable)
+}
+
+// Whether the ticket is proxiable.
+fn is_proxiable(policy: Policy, options: &BitStringAsn1, old: &BitStringAsn1) -> bool
+    ensures { result ≡ ((bit_of options.now option.PROXIABLE && bit_of old.now flag.PROXIABLE) && policy.proxiable) }
+{
+    options.bit(option_bits::PROXIABLE) && old.bit(flag_bits::PROXIABLE) && policy.proxiable
 }

@@ -1,6 +1,8 @@
 //! Judges TGS requests by the rows of a realm's table, part by part.
 ghost use Rattle.std.specs.Prelude.{◌≡◌};
 ghost use Rattle.krb_kdc_exchanges.specs.Call.{call_of};
+ghost use Rattle.krb_kdc_exchanges.specs.Options.{has_option_beyond};
+ghost use Rattle.krb_kdc_exchanges.specs.Requests.{body_of, header_rows};
 ghost use Rattle.krb_messages.specs.TicketGranting.{krbtgt_of};
 ghost use Rattle.krb_kdc_exchanges.specs.TgsTable.{carried, client_and_times, authenticated_near, ticket_granting, to_us};
 ghost use Rattle.krb_messages.specs.Refusals.{IsJudged};
@@ -30,12 +32,19 @@ pub(crate) fn check_request(
 ) -> Result<(), Refusal>
     ensures { IsJudged (to_us policy realm.now request.now).gives result }
 {
-    let is_refused = has_option_beyond(policy, &request.req_body.0.kdc_options.0);
-    check_header(TGS_REQ_MSG_TYPE, realm, is_refused, request)?;
+    check_allowed(policy, realm, request)?;
     if request.req_body.0.enc_authorization_data.0.is_some() {
         return Err(Refusal::Krb(error_codes::KDC_ERR_POLICY));
     }
     Ok(())
+}
+
+// Judges the request's header.
+fn check_allowed(policy: Policy, realm: &GeneralStringAsn1, request: &KdcReq) -> Result<(), Refusal>
+    ensures { IsJudged (header_rows TGS_REQ_MSG_TYPE realm.now (has_option_beyond policy (body_of request.now).kdc_options.0) request.now).gives result }
+{
+    let is_refused = has_option_beyond(policy, &request.req_body.0.kdc_options.0);
+    check_header(TGS_REQ_MSG_TYPE, realm, is_refused, request)
 }
 
 /// Reads the AP-REQ that the first padata PA-TGS-REQ is.

@@ -39,11 +39,16 @@ pub(crate) fn further_till(
 ) -> Option<GeneralizedTime>
     ensures { IsTill (further_till renews call.now.settings.policy.renewable_life part.now span body.now) result }
 {
+    let old = renew_till_of(part);
     if renews {
-        return renew_till_of(part);
+        return old;
     }
-    let life = call.settings.policy().renewable_life;
-    granted_till(life, span, renew_till_of(part), further_asked(part, body))
+    granted_till(
+        call.settings.policy().renewable_life,
+        span,
+        old,
+        further_asked(part, body),
+    )
 }
 
 // The renew-till that is asked for by a renewable ticket, in seconds, and none by another one.

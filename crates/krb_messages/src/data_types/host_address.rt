@@ -1,15 +1,13 @@
 //! Addresses of hosts.
-ghost use Rattle.std.specs.Prelude.{◌≡◌};
 ghost use Rattle.asn1_der.specs.Octets.{sequence_octet};
 
 use asn1_der::octets::SEQUENCE;
 use byte_streams::{Sink, Source};
 use picky_asn1::wrapper::{Asn1SequenceOf, IntegerAsn1, OctetStringAsn1};
 use picky_asn1_der::{
-    Asn1DerError, Deserializer, ExplicitContextTag, ExplicitContextTag0, ExplicitContextTag1,
-    Fields, Row2, Serializer, Tagged, fields_of, from_fields, read_sequence,
+    Asn1DerError, Deserializer, ExplicitContextTag0, ExplicitContextTag1, Fields, Row2, Serializer,
+    Tagged, fields_of, from_fields, read_sequence,
 };
-use std::alloc::AllocError;
 
 /// An address of a host (RFC 4120, section 5.2.5).
 ///
@@ -18,7 +16,7 @@ use std::alloc::AllocError;
 ///      addr-type   [0] Int32,
 ///      address     [1] OCTET STRING }
 /// ```
-#[derive(Debug, PartialEq, Eq)]
+#[derive(Debug, PartialEq, Eq, Clone)]
 pub struct HostAddress {
     /// The address type (RFC 4120, section 7.5.3).
     pub addr_type: ExplicitContextTag0<IntegerAsn1>,
@@ -32,19 +30,6 @@ impl Drop for HostAddress {
             addr_type: _,
             address: _,
         } = self;
-    }
-}
-
-impl Clone for HostAddress {
-    ghost is_clone = { λ address copy. copy ≡ address };
-
-    fn clone(&self) -> Result<HostAddress, AllocError> {
-        let addr_type = self.addr_type.0.clone()?;
-        let address = self.address.0.clone()?;
-        Ok(HostAddress {
-            addr_type: ExplicitContextTag(addr_type),
-            address: ExplicitContextTag(address),
-        })
     }
 }
 
