@@ -1,13 +1,21 @@
 use Rattle.std.proofs.Common.{Some, ap, sym, ◌∙◌}
 use Rattle.std.specs.Option.{option_map}
+use Rattle.std.proofs.lemmas.Result.{err_from_is_err_and}
 use Rattle.krb_crypto.specs.Keys.{KeyRecord}
 use Rattle.krb_tickets.specs.Grant.{grant_of}
 use Rattle.krb_tickets.specs.ReplyKeys.{reply_key_of}
 use Rattle.krb_kdc_exchanges.specs.Call.{call_of}
 use Rattle.krb_kdc_exchanges.specs.SessionKeys.{under}
 use Rattle.krb_kdc_exchanges.specs.TgsTable.{first_granted}
-use Rattle.krb_kdc_exchanges.proofs.GrantedFurther.{given, no_key, no_suite}
+use Rattle.krb_kdc_exchanges.proofs.GrantedFurther.{given, no_key, no_suite, not_lasting}
 use Rattle.krb_kdc_exchanges.proofs.tgs_exchange.grant.grant_in.Goals as goal
+
+pub returns-in_err-span : goal.returns-in_err-span
+returns-in_err-span c =
+    let exit = err_from_is_err_and c.from_residual.result c.from_residual.ensures.1 in
+    rw (exit.1, exit.2)
+    (not_lasting c.args.renews (call_of c.args.call.now) c.args.opened.now.part.now c.args.opened.now.authenticated.now c.args.service_name.now c.args.service.now c.args.body.now
+    c.in_err-span.field-0.0 c.in_err-span.ensures)
 
 pub returns-in_default : goal.returns-in_default
 returns-in_default c =
