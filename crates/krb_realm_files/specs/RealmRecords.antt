@@ -3,11 +3,12 @@
 -- realm's name up to the end. Of each number the lowest octet is the first. Without such octets no login by certificate is answered.
 -- The policy is 0 where none is set: 1 where it limits session keys of triple DES, 2 where tickets are forwardable, 4 where they are
 -- proxiable, and 16 for each second of the greatest renewable life, added up.
-use Rattle.std.specs.Prelude.{ℕ, ◌+◌, ◌*◌, ◌/◌, ◌%◌, ◌==◌, ◌||◌, ◌&&◌, nat_le, nat_lt, not, Bool, true, List, [], ◌∷◌, ◌++◌, length, drop, take, slice_index, Option, None, Some, if◌then◌else◌}
+use Rattle.std.specs.Prelude.{◌≡◌, ℕ, ◌+◌, ◌*◌, ◌/◌, ◌%◌, ◌==◌, ◌||◌, ◌&&◌, nat_le, nat_lt, not, Bool, true, false, List, [], ◌∷◌, ◌++◌, length, drop, take, slice_index, Option, None, Some, refl, if◌then◌else◌}
 use Rattle.byte_streams.specs.Numbers.{le32, le32_at}
 use Rattle.krb_realm_accounts.specs.Names.{is_realm_name}
 use Rattle.krb_realm_accounts.specs.Settings.{SettingsRecord}
 use Rattle.krb_realm_accounts.specs.declared.policy.Policy.{Policy}
+use Rattle.krb_realm_accounts.specs.declared.policy.TheConstants.{NO_POLICY}
 use Rattle.krb_realm_accounts.specs.declared.settings.TheConstants.{LIFETIME_LIMIT, SKEW_LIMIT}
 use Rattle.krb_realm_files.specs.declared.format.TheConstants.{FORWARDABLE, LIMITS_DES3, PKINIT_ROOM, PROXIABLE, REALM_HEAD, RECORD_VERSION, RENEWABLE_SECOND}
 use Rattle.krb_realm_files.specs.declared.realm_parameters.RealmParameters.{RealmParameters}
@@ -33,6 +34,23 @@ number_if is number = if is then number else 0
 abbrev pub policy_number : Policy → ℕ
 policy_number policy =
     number_if policy.limits_des3 LIMITS_DES3 + number_if policy.forwardable FORWARDABLE + number_if policy.proxiable PROXIABLE + policy.renewable_life * RENEWABLE_SECOND
+
+-- worked: the numbers 0 and 1, which alone a database from before these policies has, are read as they were
+no_policy : policy_of 0 ≡ NO_POLICY
+no_policy = refl
+
+triple_des_alone : policy_of 1 ≡ record NO_POLICY { limits_des3 = true }
+triple_des_alone = refl
+
+both_known : (is_policy 0 && is_policy 1) ≡ true
+both_known = refl
+
+-- worked: a week is a policy's renewable life, and more than a year is none's
+a_week : policy_of (16 * 604800 + 7) ≡ record { limits_des3 = true; forwardable = true; proxiable = true; renewable_life = 604800 }
+a_week = refl
+
+over_a_year : is_policy (16 * 31536001) ≡ false
+over_a_year = refl
 
 -- The settings of this clock skew, this greatest lifetime and the policy of this number, if all are in their ranges.
 abbrev pub settings_of : ℕ → ℕ → ℕ → Option SettingsRecord

@@ -12,6 +12,7 @@ usage: python3 account_files.py                 in this folder: writes the files
 """
 import hashlib
 import random
+import struct
 import subprocess
 import sys
 import tempfile
@@ -113,6 +114,17 @@ def realm_of(record):
     return name, skew, lifetime, pkinit or None, policy
 
 
+def realm_before(record):
+    """The realm by the rules of a database from before tickets were renewable, whose policy is 0 or LIMITS_DES3, or None."""
+    if len(record) < 17:
+        return None
+    version, skew, lifetime, size, policy = struct.unpack("<B4I", record[:17])
+    if version != 1 or policy not in (0, LIMITS_DES3) or skew > 86400 or lifetime not in range(1, 31536001) or size > len(record) - 17:
+        return None
+    name = record[17 + size :]
+    return (name, skew, lifetime, record[17 : 17 + size] or None, policy) if name.isascii() and 0 < len(name) < 256 else None
+
+
 def data_of(file, key):
     where = found(file, key)
     if where is None:
@@ -154,7 +166,16 @@ def policy_words(policy=0):
 def realm_got(file):
     try:
         record = data_of(file, REALM_KEY)
-        return "damaged" if record is None else realm_words(realm_of(record))
+        if record is None:
+            return "damaged"
+        before = realm_before(record)
+        try:
+            realm = realm_of(record)
+        except Damaged:
+            assert before is None
+            raise
+        assert before == (realm if realm[4] <= LIMITS_DES3 else None)
+        return realm_words(realm)
     except Damaged:
         return "damaged"
 

@@ -451,8 +451,8 @@ def main():
     write("other_version.cdb", databases.database(ACCOUNTS + [(b"\xff", b"\2" + REALM[0][1][1:])]))
     write("no_realm.cdb", databases.database(ACCOUNTS))
     write("no_krbtgt.cdb", databases.database(ACCOUNTS[:-1] + REALM))
-    # The policy limits triple DES, and a policy of another number is none.
-    for path, policy in ("limited.cdb", 1), ("other_policy.cdb", 8):
+    # The policy limits triple DES, and no policy has the number of a renewable life of more than a year.
+    for path, policy in ("limited.cdb", 1), ("other_policy.cdb", 16 * 31536001):
         write(path, databases.database(ACCOUNTS + [(b"\xff", realm_record(b"R", 300, 36000, policy))]))
     damaged = [(key, account(18, bytes([1]) * 32, kvno=0) if key == key_of(b"h") else record) for key, record in ACCOUNTS]
     write("damaged_h.cdb", databases.database(damaged + REALM))
