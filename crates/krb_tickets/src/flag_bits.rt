@@ -1,16 +1,19 @@
-//! The bits of a ticket's flags of which a realm's policy decides (RFC 4120, section 5.3).
+//! The bits of a ticket's flags of which a realm's policy decides (RFC 4120, section 5.3). The option for a flag has the flag's bit (section
+//! 5.4.1).
+
+use krb_constants::kdc_options;
 
 /// The ticket-granting service may grant a ticket-granting ticket with another address by this one.
 pub const FORWARDABLE: usize = 1;
 
 /// The ticket was forwarded, or granted by one that was.
-pub const FORWARDED: usize = 2;
+pub const FORWARDED: usize = kdc_options::FORWARDED;
 
 /// The ticket-granting service may grant a service ticket with another address by this one.
 pub const PROXIABLE: usize = 3;
 
 /// The ticket is a proxy.
-pub const PROXY: usize = 4;
+pub const PROXY: usize = kdc_options::PROXY;
 
 /// The ticket may be renewed up to its renew-till.
 pub const RENEWABLE: usize = 8;
