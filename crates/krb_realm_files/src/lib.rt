@@ -52,7 +52,7 @@ pub use pkinit_fault::PkinitFault;
 pub use realm::{FileRealm, find_realm};
 pub use realm_fault::{FaultReporter, FileFault, Silent};
 pub use realm_parameters::RealmParameters;
-pub use realm_record::{is_pkinit, read_realm, realm_bytes};
+pub use realm_record::{has_number, is_pkinit, read_realm, realm_bytes};
 pub use refused_pkinit::RefusedPkinit;
 pub use writing::{
     NamedAccount, record_of_account, record_of_realm, write_accounts, write_records,

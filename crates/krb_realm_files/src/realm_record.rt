@@ -80,7 +80,7 @@ fn is_policy(number: u32) -> bool
 }
 
 /// Returns whether the policy has a number: its greatest renewable life is a year at most.
-pub(crate) fn has_number(policy: Policy) -> bool
+pub fn has_number(policy: Policy) -> bool
     ensures { result ≡ has_number policy }
 {
     u64::from(policy.renewable_life) <= LIFETIME_LIMIT
@@ -88,7 +88,7 @@ pub(crate) fn has_number(policy: Policy) -> bool
 
 // Returns the number of a policy.
 fn policy_number(policy: Policy) -> u32
-    requires { policy.renewable_life ≤ 31536000 }
+    requires { policy.renewable_life ≤ LIFETIME_LIMIT }
     ensures { result ≡ policy_number policy }
 {
     number_if(policy.limits_des3, LIMITS_DES3)
