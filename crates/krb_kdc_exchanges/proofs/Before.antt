@@ -1,5 +1,5 @@
 -- Why the tables of a realm that sets no policy are those without one.
-use Rattle.std.proofs.Common.{◌≡◌, ℕ, Bool, true, false, not, ◌&&◌, List, Option, None, Some, Result, Ok, Err, refl, sym, subst, inl, inr}
+use Rattle.std.proofs.Common.{◌≡◌, ℕ, Bool, true, false, not, ◌&&◌, List, Option, None, Some, Result, Ok, refl, sym, subst, inl, inr}
 use Rattle.std.specs.Prelude.{◌||◌}
 use Rattle.std.specs.Option.{is_some}
 use Rattle.asn1_leaves.specs.GeneralizedTime.{seconds_of}
@@ -24,7 +24,6 @@ use Rattle.decision_tables.specs.Tables.{Table, and_then, done, need, refuse}
 use Rattle.krb_tickets.specs.Grant.{GrantRecord}
 use Rattle.krb_tickets.specs.Parts.{plain_flags}
 use Rattle.krb_tickets.specs.ReplyKeys.{ReplyKeyRecord}
-use Rattle.krb_tickets.specs.declared.grant.TicketFlags.{TicketFlags}
 use Rattle.krb_ap_requests.specs.declared.presented.Authenticated.{Authenticated}
 use Rattle.krb_kdc_exchanges.specs.AsTable.{as_table, authenticated, possible}
 use Rattle.krb_kdc_exchanges.specs.Before.{plain_as_table, plain_further, plain_granted, plain_initial, plain_tgs_table, without_policy}

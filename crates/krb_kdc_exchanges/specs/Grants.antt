@@ -1,5 +1,5 @@
 -- The first ticket, which a realm grants in an AS exchange (RFC 4120, section 3.1.3).
-use Rattle.std.specs.Prelude.{◌&&◌, Bool, true, false, None, Option, Result}
+use Rattle.std.specs.Prelude.{◌&&◌, true, false, None, Option, Result}
 use Rattle.std.specs.Option.{is_some}
 use Rattle.picky_asn1.specs.BitString.{Bits, bit_of}
 use Rattle.picky_asn1.specs.Bytes.{Bytes}

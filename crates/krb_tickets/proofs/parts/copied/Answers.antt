@@ -9,4 +9,4 @@ same_address : (address copy : HostAddress) → host_address_clone.ghosts.is_clo
 same_address address copy is = λ i. record { addr_type = record { 0 = is.0 i }; address = record { 0 = is.1 i } }
 
 pub returns : goal.returns
-returns c = same_from_all_zip host_address_clone.ghosts.is_clone c.args.addresses.now c.in_ok-copy.copy c.in_ok-copy.ensures same_address
+returns c = same_from_all_zip _ c.args.addresses.now c.in_ok-copy.copy c.in_ok-copy.ensures.cases same_address
