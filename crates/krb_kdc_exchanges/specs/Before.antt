@@ -104,10 +104,16 @@ plain_of_carried call body ap_req =
     need (call.look (components service_name)) KDC_ERR_S_PRINCIPAL_UNKNOWN (λ service.
     plain_granted call part authenticated service_name service body)))))))
 
+-- a TGS request to this realm, without an option that is refused in an AS request too, and without `enc-authorization-data`
+abbrev pub plain_to_us : Bytes → KdcReq → Table (Result (Unit {0}) Code)
+plain_to_us realm request =
+    and_then (header_rows TGS_REQ_MSG_TYPE realm (has_refused_option (body_of request).kdc_options.0) request) (λ _.
+    refuse (is_some (body_of request).enc_authorization_data.0) KDC_ERR_POLICY
+    (done (Ok tt)))
+
 -- the table of TGS requests
 abbrev pub plain_tgs_table : CallRecord → KdcReq → Table (Result Bytes Code)
 plain_tgs_table call request =
-    and_then (and_then (header_rows TGS_REQ_MSG_TYPE call.realm (has_refused_option (body_of request).kdc_options.0) request) (λ _.
-    refuse (is_some (body_of request).enc_authorization_data.0) KDC_ERR_POLICY (done (Ok tt)))) (λ _.
+    and_then (plain_to_us call.realm request) (λ _.
     and_then (carried (padata_in request))
     (plain_of_carried call (body_of request)))
