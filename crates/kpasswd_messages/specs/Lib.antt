@@ -1,0 +1,4 @@
+pub mod Versions
+pub mod ResultCodes
+pub mod Frames
+pub mod Results
