@@ -4,9 +4,11 @@
 #![tactic(auto)]
 
 mod contexts;
+mod password_frames;
 mod sequences;
 
 use contexts::replay_contexts;
+use password_frames::replay_password_frames;
 use sequences::replay_sequences;
 use std::env;
 
@@ -31,5 +33,5 @@ fn replay_recorded(rt: &HostRuntime) -> anyhow::Result<()> {
     for name in SEQUENCES {
         replay_sequences(rt, name)?;
     }
-    Ok(())
+    replay_password_frames(rt)
 }
