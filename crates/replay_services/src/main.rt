@@ -4,10 +4,12 @@
 #![tactic(auto)]
 
 mod contexts;
+mod password_changes;
 mod password_frames;
 mod sequences;
 
 use contexts::replay_contexts;
+use password_changes::replay_password_changes;
 use password_frames::replay_password_frames;
 use sequences::replay_sequences;
 use std::env;
@@ -33,5 +35,6 @@ fn replay_recorded(rt: &HostRuntime) -> anyhow::Result<()> {
     for name in SEQUENCES {
         replay_sequences(rt, name)?;
     }
-    replay_password_frames(rt)
+    replay_password_frames(rt)?;
+    replay_password_changes(rt)
 }

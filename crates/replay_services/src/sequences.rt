@@ -147,7 +147,7 @@ fn replaced(alloc: Global, run: &mut Run, keytab: &Keytab) -> anyhow::Result<Str
 }
 
 /// The keytab of these octets.
-fn keytab_of(alloc: Global, octets: &str) -> anyhow::Result<Keytab> {
+pub(crate) fn keytab_of(alloc: Global, octets: &str) -> anyhow::Result<Keytab> {
     let octets = hex::decode(alloc, octets.trim())?;
     Ok(Keytab::from_bytes(alloc, &octets)?)
 }
@@ -230,7 +230,7 @@ fn call_of<'a>(alloc: Global, line: &'a str) -> anyhow::Result<Call<'a>> {
 }
 
 /// The moment that many microseconds after 2000-01-01, or before it where the number has a minus sign.
-fn moment_of(text: &str) -> anyhow::Result<Moment> {
+pub(crate) fn moment_of(text: &str) -> anyhow::Result<Moment> {
     let start = Moment::from_text(b"20000101000000Z")
         .context("no moment")?
         .micros();

@@ -1,0 +1,5 @@
+pub mod Judged
+pub mod Settled
+pub mod Answered
+pub mod AskedFor
+pub mod Once
