@@ -1,5 +1,5 @@
 //! What holds of every service of a keytab.
-ghost use Rattle.std.specs.Prelude.{◌≡◌, ◌≤◌, ◌++◌, ℕ, true, false, List, [], ◌∷◌, Result, Ok, Err, length, ◌↔◌};
+ghost use Rattle.std.specs.Prelude.{◌≡◌, ◌≤◌, ◌++◌, ℕ, true, false, List, [], ◌∷◌, Option, Result, Ok, Err, length, ◌↔◌};
 ghost use Rattle.krb_messages.specs.RandomBytes.{AreEnoughForApReply};
 ghost use Rattle.block_ciphers.specs.Bytes.{IsBytes};
 ghost use Rattle.decision_tables.specs.Some.{HasSome};
@@ -19,6 +19,7 @@ ghost use Rattle.krb_service.specs.declared.reply.ReplyFields.{ReplyFields};
 ghost use Rattle.krb_service.specs.ChosenEntry.{IsOtherwiseFor, IsPresentedTo, is_fitted, is_fitting, unfit_code_of};
 ghost use Rattle.krb_service.specs.KeytabRuns.{AnswerAlike, JudgesOf};
 ghost use Rattle.krb_service.specs.KeytabService.{AreOwnEntries, KeytabServiceRecord, keytab_service_of, remembering_by_keytab, remembering_by_keytab_with, service_for};
+ghost use Rattle.krb_service.specs.Unasked.{IsRepliedTo, remembering_unasked};
 
 /// The outcomes of a request are those of the service of one key that has the entry by which the request is judged. So what holds of every
 /// service of one key (`crate::laws`) holds of it. It does nothing when it runs: its contract is the law.
@@ -98,4 +99,23 @@ pub fn unfit_is_refused()
         → IsApReq bytes request → AreOwnEntries service.realm service.components service.entries
         → IsOtherwiseFor service.realm service.components request → is_fitted service.entries (enc_part_in request) ≡ false
         → (remembering_by_keytab service moment admitted bytes words).gives (Err (Krb (unfit_code_of service.entries (enc_part_in request))), admitted) }
+{}
+
+/// What is admitted with an AP-REP in any case (`remembering_unasked`) is admitted as well with one where it is asked for, and the admissions
+/// differ in the AP-REP alone. What is refused is refused as well. So each call is one of a run. What is admitted was presented, and its AP-REP
+/// has these fields. It does nothing when it runs: its contract is the law.
+pub fn unasked_as_asked()
+    ensures admits { (service : KeytabServiceRecord) (fields : ReplyFields) (moment : ℕ) (admitted : List PairRecord) (bytes words : List ℕ)
+        (admission : AdmissionRecord) (after : List PairRecord)
+        → (remembering_unasked fields service moment admitted bytes words).gives (Ok admission, after)
+        → (reply : Option (List ℕ))
+        × (remembering_by_keytab_with fields service moment admitted bytes words).gives (Ok (record admission { reply = reply }), after) }
+    ensures refuses { (service : KeytabServiceRecord) (fields : ReplyFields) (moment : ℕ) (admitted : List PairRecord) (bytes words : List ℕ)
+        (refusal : AdmitRefusal) (after : List PairRecord)
+        → (remembering_unasked fields service moment admitted bytes words).gives (Err refusal, after)
+        → (remembering_by_keytab_with fields service moment admitted bytes words).gives (Err refusal, after) }
+    ensures replies { (service : KeytabServiceRecord) (fields : ReplyFields) (moment : ℕ) (admitted : List PairRecord) (bytes words : List ℕ)
+        (admission : AdmissionRecord) (after : List PairRecord)
+        → (remembering_unasked fields service moment admitted bytes words).gives (Ok admission, after)
+        → (choice : Choice) × IsPresentedTo service.entries choice bytes × TellsOf choice admission × IsRepliedTo fields words choice admission }
 {}

@@ -1,5 +1,5 @@
 //! Services of keytabs.
-ghost use Rattle.std.specs.Prelude.{◌≡◌, ◌≤◌, ◌⊎◌, List, length, Ok, Err, MatchResult, OnErr, OnOk, max};
+ghost use Rattle.std.specs.Prelude.{◌≡◌, ◌≤◌, ◌⊎◌, List, length, IfOk, IsSome, Ok, Err, MatchResult, OnErr, OnOk, max};
 ghost use Rattle.std.specs.List.{filter};
 ghost use Rattle.std.specs.Set.{distinct_count};
 ghost use Rattle.krb_messages.specs.RandomBytes.{AreEnoughForApReply};
@@ -10,6 +10,7 @@ ghost use Rattle.krb_service.specs.Seen.{IsWindow};
 ghost use Rattle.krb_service.specs.KeytabEntries.{entries_of};
 ghost use Rattle.krb_service.specs.KeytabService.{IsKeytabService, giving, made, making, remembering_by_keytab, remembering_by_keytab_with};
 ghost use Rattle.krb_service.specs.ApReply.{random_size};
+ghost use Rattle.krb_service.specs.Unasked.{asking, remembering_unasked};
 ghost use Rattle.krb_service.specs.declared.keytab_service.refusal.KeytabServiceRefusal.{KeytabServiceRefusal};
 ghost use Rattle.krb_service.specs.declared.keytab_service.refusal.KeytabServiceRefusal.TheVariants.{Memory};
 
@@ -17,7 +18,7 @@ use crate::keytab_service::choosing::receive;
 use crate::keytab_service::entries::{has_entry, own_entries};
 use crate::keytab_service::refusal::KeytabServiceRefusal;
 use crate::{Admission, Admitter, KeytabEntry, ReplyFields, Seen, admit_once_with};
-use krb_ap_requests::AdmitRefusal;
+use krb_ap_requests::{AdmitRefusal, Presented};
 use krb_file_formats::Keytab;
 use krb_realm_accounts::{SKEW_LIMIT, are_components, components_of, is_realm_name, realm_name_of};
 use krb_time::Moment;
@@ -174,6 +175,33 @@ impl KeytabService {
         admit_once_with(&mut self.seen, alloc, now, presented, fields, words)
     }
 
+    /// Admits an AP request as [`KeytabService::admit_with`] does, with an AP-REP also where the request asks for none: the client of a
+    /// password change expects one (RFC 3244, section 2).
+    pub fn admit_replying(
+        &mut self,
+        alloc: Global,
+        message: &[u8],
+        moment: Moment,
+        fields: ReplyFields,
+        words: &[u8],
+    ) -> Result<Admission, AdmitRefusal>
+        requires { random_size fields ≤ length words.now }
+        ensures greatest { self.new.seen.greatest ≡ max self.old.seen.greatest moment }
+        ensures skew { self.new.seen.skew ≡ self.old.seen.skew }
+        ensures rest { self.new ≡ record self.old { seen = self.new.seen } }
+        ensures remembers { (admitted : List PairRecord) → IsWindow self.old.seen admitted
+            → IsStep (remembering_unasked fields self.old (max self.old.seen.greatest moment) admitted message.now words.now).gives admitted result self.new.seen }
+        ensures replied { IfOk result (λ admission. IsSome admission.reply) }
+    {
+        self.seen.raise(moment);
+        self.seen.holds_window();
+        let now = self.seen.greatest();
+        let skew = self.seen.skew();
+        let presented = receive(alloc, self.entries.as_slice(), skew, now, message)?;
+        let asked = asking(presented);
+        admit_once_with(&mut self.seen, alloc, now, asked, fields, words)
+    }
+
     /// How many pairs of a client and a time the replay cache holds, under whatever entry they were admitted: of those that were admitted the
     /// ones that lie no further back than the skew, each counted once. It takes no memory.
     pub fn kept(&self) -> usize
@@ -182,6 +210,15 @@ impl KeytabService {
     {
         self.seen.kept()
     }
+}
+
+// What was presented, as where the request asks for an AP-REP.
+fn asking(presented: Presented) -> Presented
+    ensures { result ≡ asking presented }
+{
+    let mut asked = presented;
+    asked.wants_reply = true;
+    asked
 }
 
 impl Admitter for KeytabService {
