@@ -15,7 +15,6 @@ use Rattle.krb_password_changes.specs.ChangeTable.{RulesRecord}
 use Rattle.krb_password_changes.specs.NewPasswords.{Changes}
 use Rattle.krb_password_changes.specs.Refusals.{refused_as}
 use Rattle.krb_password_changes.specs.declared.answer.Admitted.{Admitted}
-use Rattle.krb_password_changes.specs.declared.answer.Answer.{Answer}
 use Rattle.krb_password_changes.specs.declared.refusal.ChangeRefusal.{ChangeRefusal}
 use Rattle.krb_password_changes.specs.declared.refusal.ChangeRefusal.TheVariants.{Refused, Memory}
 

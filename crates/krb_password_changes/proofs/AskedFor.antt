@@ -1,5 +1,5 @@
 -- What is granted was asked for.
-use Rattle.std.proofs.Common.{◌≡◌, Bool, true, false, not, is_none, List, Option, None, Some, Result, Ok, Err, ap, refl, sym, subst, ◌∙◌, inl, inr}
+use Rattle.std.proofs.Common.{◌≡◌, Bool, true, false, not, is_none, List, Option, None, Some, Result, Ok, Err, ap, refl, sym, subst, inl, inr}
 use Rattle.decision_tables.specs.One.{IsSole, same_parts}
 use Rattle.decision_tables.specs.Tables.{Table, and_then, ask, done, need, refuse}
 use Rattle.krb_account_texts.specs.Edits.{is_name_spent, place_of}
@@ -52,7 +52,7 @@ holds true e = refl
 holds false e = sym e
 
 unit_is : (u : Unit {0}) → u ≡ tt
-unit_is tt = refl
+unit_is u = refl
 
 -- the value is kept whose check passed
 kept_ok : {A : Type 0} (t : Table (Result A ResultCode)) (check : A → Table (Result (Unit {0}) ResultCode)) (value : A)

@@ -31,9 +31,9 @@ pub then_kept : {A : Type 0} (t : Table (Result A ResultCode)) (check : A → Ta
     → t.gives (Ok a) → IsJudged {T = Unit {0}} (check a).gives judged
     → (judged ≡ Ok tt → kept ≡ Ok a) → ((refusal : ChangeRefusal) → judged ≡ Err refusal → kept ≡ Err refusal)
     → IsJudged {T = A} (and_then t (λ b. and_then (check b) (λ _. done (Ok b)))).gives kept
-then_kept {A} t check a (Ok tt) kept given judged passed refused =
+then_kept {A} t check a (Ok u) kept given judged passed refused =
     subst (λ (r : Result A ChangeRefusal). IsJudged {T = A} (and_then t (λ b. and_then (check b) (λ _. done (Ok b)))).gives r) (sym (passed refl))
-    (inl (a, given, inl (tt, judged, refl)))
+    (inl (a, given, inl (u, judged, refl)))
 then_kept {A} t check a (Err refusal) kept given judged passed refused =
     subst (λ (r : Result A ChangeRefusal). IsJudged {T = A} (and_then t (λ b. and_then (check b) (λ _. done (Ok b)))).gives r) (sym (refused refusal refl))
     (check_refused t check a refusal given judged)

@@ -1,7 +1,7 @@
 -- What becomes of a granted change.
 use Rattle.std.proofs.Common.{◌≡◌, ◌↔◌, ◌⊎◌, ℕ, Bool, true, false, is_none, List, Option, None, Some, Result, Ok, Err, ap, refl, sym, subst, inl, inr}
 use Rattle.decision_tables.specs.One.{same_parts}
-use Rattle.decision_tables.specs.Tables.{done, refuse}
+use Rattle.decision_tables.specs.Tables.{and_then, done, refuse}
 use Rattle.krb_account_texts.specs.declared.edits.EditRefusal.{EditRefusal}
 use Rattle.krb_account_texts.specs.declared.edits.EditRefusal.TheVariants.{Unknown, NumberSpent}
 use Rattle.krb_account_texts.specs.declared.line.Line.{Line}
@@ -11,13 +11,16 @@ use Rattle.kpasswd_messages.specs.declared.result_code.ResultCode.TheVariants.{H
 use Rattle.kpasswd_messages.specs.declared.version.Version.{Version}
 use Rattle.picky_asn1.specs.Bytes.{Bytes}
 use Rattle.krb_password_changes.specs.declared.judge.Granted.{Granted}
-use Rattle.krb_password_changes.specs.ChangeTable.{RulesRecord, allowed_target, granted_change, judged_change, judged_message, judged_private, read_private, settable, strong}
+use Rattle.krb_password_changes.specs.ChangeTable.{RulesRecord, allowed_target, granted_change, judged_change, judged_message, judged_private, numbered, opened, opened_private, read_private, settable, strong}
 use Rattle.krb_password_changes.specs.Changes.{TargetRecord}
 use Rattle.krb_password_changes.specs.NewPasswords.{Changes, HasPassword}
 use Rattle.krb_password_changes.specs.Refusals.{IsJudged}
 use Rattle.krb_password_changes.specs.declared.refusal.ChangeRefusal.{ChangeRefusal}
 use Rattle.krb_password_changes.specs.declared.refusal.ChangeRefusal.TheVariants.{Refused, Memory}
-use Rattle.krb_password_changes.proofs.Judged.{then_judged, then_refused}
+use Rattle.krb_password_changes.specs.Privates.{private_key}
+use Rattle.krb_password_changes.proofs.Judged.{then_judged, then_kept, then_refused}
+use Rattle.krb_messages.specs.declared.data_types.encryption_key.EncryptionKey.{EncryptionKey}
+use Rattle.microsoft_messages.specs.declared.enc_krb_priv_part.EncKrbPrivPartInner.{EncKrbPrivPartInner}
 use Rattle.microsoft_messages.specs.declared.change_passwd_data.ChangePasswdData.{ChangePasswdData}
 use Rattle.microsoft_messages.specs.declared.krb_priv.KrbPrivInner.{KrbPrivInner}
 
@@ -103,3 +106,21 @@ pub changed : (rules : RulesRecord) (version : Version) (admission : AdmissionRe
     → Changes rules version admission octets old (Ok granted) new
 unfolding judged_change
 changed rules version admission octets old new granted given set has = (inl (granted, given, set), has)
+
+-- a KRB-PRIV that doesn't open under the key of the request is refused
+pub unopened : (admission : AdmissionRecord) (message : KrbPrivInner) (key : EncryptionKey) (refusal : ChangeRefusal) → key ≡ private_key admission
+    → IsJudged {T = EncKrbPrivPartInner} (opened key message.enc_part.0).gives (Err refusal)
+    → IsJudged {T = EncKrbPrivPartInner} (opened_private admission message).gives (Err refusal)
+unopened admission message key refusal same given =
+    then_refused (opened (private_key admission) message.enc_part.0) (λ part. and_then (numbered admission part) (λ _. done (Ok part))) refusal
+    (subst (λ (k : EncryptionKey). IsJudged {T = EncKrbPrivPartInner} (opened k message.enc_part.0).gives (Err refusal)) same given)
+
+-- the part of one that opens is kept where it is the client's first message
+pub opened_first : (admission : AdmissionRecord) (message : KrbPrivInner) (key : EncryptionKey) (part : EncKrbPrivPartInner) (judged : Result (Unit {0}) ChangeRefusal)
+    (kept : Result EncKrbPrivPartInner ChangeRefusal) → key ≡ private_key admission → (opened key message.enc_part.0).gives (Ok part)
+    → IsJudged {T = Unit {0}} (numbered admission part).gives judged
+    → (judged ≡ Ok tt → kept ≡ Ok part) → ((refusal : ChangeRefusal) → judged ≡ Err refusal → kept ≡ Err refusal)
+    → IsJudged {T = EncKrbPrivPartInner} (opened_private admission message).gives kept
+opened_first admission message key part judged kept same given number passed refused =
+    then_kept (opened (private_key admission) message.enc_part.0) (numbered admission) part judged kept
+    (subst (λ (k : EncryptionKey). (opened k message.enc_part.0).gives (Ok part)) same given) number passed refused

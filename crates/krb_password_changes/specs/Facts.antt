@@ -1,6 +1,5 @@
 -- What a granted change is, in the words of the exchange (RFC 3244, section 2).
-use Rattle.std.specs.Prelude.{◌≡◌, ◌<◌, ◌≤◌, true, length, List, Some}
-use Rattle.krb_account_texts.specs.declared.line.Line.{Line}
+use Rattle.std.specs.Prelude.{◌≡◌, true, Some}
 use Rattle.krb_constants.specs.declared.ticket_flags.TheConstants.{INITIAL}
 use Rattle.krb_crypto.specs.declared.suite.CipherSuite.{CipherSuite}
 use Rattle.krb_messages.specs.Names.{is_same_realm}

@@ -1,5 +1,5 @@
 -- The KRB-PRIV of a request, and what is encrypted in it (RFC 4120, section 5.7.1).
-use Rattle.std.specs.Prelude.{◌≡◌, ◌+◌, ℤ, Bool, true, Option, None, Some}
+use Rattle.std.specs.Prelude.{◌+◌, ℤ, Bool, true, Option, None, Some}
 use Rattle.std.specs.Int.{cast_unsigned, w32}
 use Rattle.std.specs.Option.{option_map_or}
 use Rattle.std.specs.Ordering.{int_eq}

@@ -1,5 +1,7 @@
 //! The judgement of a request.
 ghost use Rattle.std.specs.Prelude.{◌≡◌, IfOk};
+ghost use Rattle.std.specs.List.{list_any};
+ghost use Rattle.krb_messages.specs.Names.{components, is_same_name};
 ghost use Rattle.krb_password_changes.specs.ChangeTable.{allowed_target, asked_change, granted_change, is_refused_word, judged_message, judged_part, judged_private, strong};
 ghost use Rattle.krb_password_changes.specs.Changes.{is_admin, may_set};
 ghost use Rattle.krb_password_changes.specs.Refusals.{IsJudged};
@@ -65,12 +67,19 @@ fn is_admin(rules: &Rules, client: &Target<'_>) -> bool
     ensures { result ≡ is_admin rules.now.realm rules.now.admins client.now }
 {
     is_same_realm(client.realm, &rules.realm)
-        && rules.admins.iter().any(|name| {
-            is_same_name(
-                name.name_string.0.as_slice(),
-                client.name.name_string.0.as_slice(),
-            )
-        })
+        && is_among(
+            rules.admins.as_slice(),
+            client.name.name_string.0.as_slice(),
+        )
+}
+
+// Whether a name is one of these.
+fn is_among(names: &[PrincipalName], name: &[GeneralStringAsn1]) -> bool
+    ensures { result ≡ list_any (λ own. is_same_name (components own) name.now) names.now }
+{
+    names
+        .iter()
+        .any(|own| is_same_name(own.name_string.0.as_slice(), name))
 }
 
 // Whether the client may set the password of a principal.

@@ -36,10 +36,10 @@ fn key_of_password(
 ) -> Result<Key, AllocError>
     ensures { IfOk result (λ key. key ≡ record { suite = suite; bytes = password_key_of suite password.now salt.now }) }
 {
-    match Key::of_password(alloc, suite, password, salt) {
-        Ok(key) => Ok(key),
-        Err(_) => Err(AllocError),
-    }
+    let Ok(key) = Key::of_password(alloc, suite, password, salt) else {
+        return Err(AllocError);
+    };
+    Ok(key)
 }
 
 /// Gives the account of the granted target the next key: that of the password, of this suite. What is refused changes nothing.

@@ -10,7 +10,7 @@ returns-in_err-frame-clause-admits c = λ admitted w.
 
 pub returns-in_err-admission-clause-admits : goal.returns-in_err-admission-clause-admits
 returns-in_err-admission-clause-admits c = λ admitted w.
-    let exit = err_from_is_err_and c.from_residual.result c.from_residual.ensures.1 in
+    let exit = err_from_is_err_and c.from_residual-in_err-admission.result c.from_residual-in_err-admission.ensures.1 in
     rw (exit.1, exit.2)
     (request_refused _ c.args.message.now c.in_ok-frame.frame.ap_message.now c.in_ok-frame.frame.krb_priv.now c.in_ok-frame.frame.version
     c.in_err-admission.field-0.0 _ c.in_ok-frame.ensures.frame (c.in_err-admission.ensures.remembers admitted w))

@@ -10,7 +10,7 @@ returns-in_err-own c =
 
 pub returns-in_err-check_password : goal.returns-in_err-check_password
 returns-in_err-check_password c =
-    let exit = err_from_is_err_and c.from_residual.result c.from_residual.ensures.1 in
+    let exit = err_from_is_err_and c.from_residual-in_err-check_password.result c.from_residual-in_err-check_password.ensures.1 in
     rw (exit.1, exit.2)
     (password_refused c.args.rules.now c.args.admission.now c.args.change.now c.in_ok-own.own c.in_err-check_password.field-0.0 c.in_ok-own.ensures c.in_err-check_password.ensures)
 

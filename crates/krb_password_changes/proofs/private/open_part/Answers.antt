@@ -1,6 +1,6 @@
 use Rattle.std.proofs.Common.{refl}
 use Rattle.krb_ap_requests.proofs.Tagged.{same_sealed}
-use Rattle.krb_kpasswd.proofs.private.open_part.Goals as goal
+use Rattle.krb_password_changes.proofs.private.open_part.Goals as goal
 
 pub returns-in-Some : goal.returns-in-Some
 returns-in-Some c = same_sealed _ _ _ _ _ _ _ _ refl (rw c.in-Some.is at c.in_ok-found.ensures)

@@ -1,4 +1,4 @@
-use Rattle.krb_kpasswd.proofs.private.private_in.Goals as goal
+use Rattle.krb_password_changes.proofs.private.private_in.Goals as goal
 
 pub returns-in-None : goal.returns-in-None
 returns-in-None c =
