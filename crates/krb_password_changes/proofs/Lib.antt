@@ -3,3 +3,4 @@ pub mod Settled
 pub mod Answered
 pub mod AskedFor
 pub mod Once
+pub mod Replied

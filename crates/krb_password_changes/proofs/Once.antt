@@ -1,21 +1,26 @@
 -- An answered request adds one pair of client and time, which is new.
-use Rattle.std.proofs.Common.{◌≡◌, ℕ, ◌+◌, suc, max, List, [], ◌∷◌, length, Result, Ok, Err, ap, refl, sym, subst, ◌∙◌, arith}
+use Rattle.std.proofs.Common.{◌≡◌, ℕ, ◌+◌, max, List, [], ◌∷◌, length, Ok, refl, sym, subst, arith}
 use Rattle.krb_account_texts.specs.declared.line.Line.{Line}
 use Rattle.krb_ap_requests.specs.Entry.{EntryRecord}
-use Rattle.krb_ap_requests.specs.declared.refusal.AdmitRefusal.{AdmitRefusal}
 use Rattle.krb_messages.specs.RandomBytes.{Random}
 use Rattle.krb_service.proofs.KeytabLaws.{call_of_some}
 use Rattle.krb_service.proofs.OnceForEver.{once_for_ever}
-use Rattle.krb_service.specs.Admission.{AdmissionRecord}
-use Rattle.krb_service.specs.KeytabService.{KeytabServiceRecord}
+use Rattle.krb_service.proofs.Unasked.{unasked_admits, unasked_replies}
+use Rattle.krb_ap_requests.specs.Presents.{Choice}
+use Rattle.krb_service.specs.Admission.{AdmissionRecord, TellsOf}
+use Rattle.krb_service.specs.ChosenEntry.{IsPresentedTo}
+use Rattle.krb_service.specs.KeytabService.{remembering_by_keytab_with}
 use Rattle.krb_service.specs.OnceForEver.{AreOnce}
 use Rattle.krb_service.specs.Pair.{PairRecord}
 use Rattle.krb_service.specs.RememberingService.{IsStep, remembering_by}
 use Rattle.krb_service.specs.Runs.{AdmissionCall, IsRun, answer_to}
 use Rattle.krb_service.specs.Seen.{IsWindow, SeenRecord}
+use Rattle.krb_service.specs.Unasked.{IsRepliedTo}
+use Rattle.kpasswd_messages.specs.Frames.{IsFrame}
+use Rattle.kpasswd_messages.specs.declared.version.Version.{Version}
 use Rattle.krb_service.specs.declared.reply.ReplyFields.TheVariants.{TimeAlone}
 use Rattle.picky_asn1.specs.Bytes.{Bytes}
-use Rattle.krb_password_changes.specs.Answers.{Caller, IsAdmitted, IsAnswered, admitting}
+use Rattle.krb_password_changes.specs.Answers.{Caller, IsAnswered}
 use Rattle.krb_password_changes.specs.ChangeTable.{RulesRecord}
 use Rattle.krb_password_changes.specs.declared.answer.Answer.{Answer}
 
@@ -40,6 +45,19 @@ pub answered_once : (caller : Caller) (rules : RulesRecord) (message : Bytes) (o
     → (after : List PairRecord) × AreOnce after × (length after ≡ 1 + length caller.admitted) × IsWindow seen after
 unfolding IsAnswered IsStep
 answered_once caller rules message old new answer seen once (version, krb_priv, after, is, window, changes) =
-    let step : IsStep (admitting caller is.request).gives caller.admitted (Ok answer.admission) seen = (after, is.admits, window) in
-    let by = call_of_some caller.service TimeAlone caller.moment caller.admitted is.request caller.words (Ok answer.admission) seen step in
-    added caller.service.seen.skew caller.moment caller.admitted by.0 is.request caller.words answer.admission seen once by.1
+    let asked = unasked_admits TimeAlone caller.service caller.moment caller.admitted is.request caller.words answer.admission after is.admits in
+    let admission : AdmissionRecord = record answer.admission { reply = asked.0 } in
+    let step : IsStep (remembering_by_keytab_with TimeAlone caller.service caller.moment caller.admitted is.request caller.words).gives caller.admitted (Ok admission) seen =
+    (after, asked.1, window) in
+    let by = call_of_some caller.service TimeAlone caller.moment caller.admitted is.request caller.words (Ok admission) seen step in
+    added caller.service.seen.skew caller.moment caller.admitted by.0 is.request caller.words admission seen once by.1
+
+-- what is answered was presented
+pub answered_as_presented : (caller : Caller) (rules : RulesRecord) (message : Bytes) (old new : List Line) (answer : Answer) (seen : SeenRecord)
+    → IsAnswered caller rules message old (Ok answer) new seen
+    → (version : Version) × (request : Bytes) × (krb_priv : Bytes) × (choice : Choice) × IsFrame version request krb_priv message
+    × IsPresentedTo caller.service.entries choice request × TellsOf choice answer.admission × IsRepliedTo TimeAlone caller.words choice answer.admission
+unfolding IsAnswered
+answered_as_presented caller rules message old new answer seen (version, krb_priv, after, is, window, changes) =
+    let by = unasked_replies TimeAlone caller.service caller.moment caller.admitted is.request caller.words answer.admission after is.admits in
+    (version, is.request, krb_priv, by.0, is.frame, by.1, by.2, by.3)

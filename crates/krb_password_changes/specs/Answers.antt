@@ -5,10 +5,11 @@ use Rattle.krb_account_texts.specs.declared.line.Line.{Line}
 use Rattle.krb_ap_requests.specs.declared.refusal.AdmitRefusal.{AdmitRefusal}
 use Rattle.krb_messages.specs.RandomBytes.{Random}
 use Rattle.krb_service.specs.Admission.{AdmissionRecord}
-use Rattle.krb_service.specs.KeytabService.{KeytabServiceRecord, remembering_by_keytab_with}
+use Rattle.krb_service.specs.KeytabService.{KeytabServiceRecord}
 use Rattle.krb_service.specs.Pair.{PairRecord}
 use Rattle.krb_service.specs.RememberingService.{Outcome}
 use Rattle.krb_service.specs.Seen.{IsWindow, SeenRecord}
+use Rattle.krb_service.specs.Unasked.{remembering_unasked}
 use Rattle.krb_service.specs.declared.reply.ReplyFields.TheVariants.{TimeAlone}
 use Rattle.krb_time.specs.Units.{Micros}
 use Rattle.kpasswd_messages.specs.Frames.{IsFrame, frame_table}
@@ -30,9 +31,9 @@ pub record Caller : Type 0 where
   pub moment : Micros
   pub words : Random
 
--- what the service answers to an AP-REQ
+-- What the service answers to an AP-REQ, with an AP-REP in any case (RFC 3244, section 2).
 abbrev pub admitting : Caller → Bytes → Table Outcome
-admitting caller request = remembering_by_keytab_with TimeAlone caller.service caller.moment caller.admitted request caller.words
+admitting caller request = remembering_unasked TimeAlone caller.service caller.moment caller.admitted request caller.words
 
 -- The message is a frame of this version and this KRB-PRIV. The service admits its AP-REQ, and these pairs are admitted after it.
 pub record IsAdmitted (caller : Caller) (message : Bytes) (version : Version) (admission : AdmissionRecord) (krb_priv : Bytes) (after : List PairRecord) : Type 0 where

@@ -5,3 +5,4 @@ pub mod ChangeTable
 pub mod NewPasswords
 pub mod Answers
 pub mod Facts
+pub mod Replies

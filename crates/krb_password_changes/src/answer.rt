@@ -34,7 +34,8 @@ pub struct Answer {
     pub outcome: Result<Granted, ChangeRefusal>,
 }
 
-/// Reads a message as a frame, and admits its AP-REQ once. `words`: random octets, of which the first 16 count.
+/// Reads a message as a frame, and admits its AP-REQ once. There is an AP-REP whether the AP-REQ asks for one or not (RFC 3244, section 2).
+/// `words`: random octets, of which the first 16 count.
 pub fn admit_request<'a>(
     alloc: Global,
     service: &mut KeytabService,
@@ -52,7 +53,7 @@ pub fn admit_request<'a>(
         message.now result service.new.seen }
 {
     let frame = read_frame(message)?;
-    let admission = service.admit_with(
+    let admission = service.admit_replying(
         alloc,
         frame.ap_message,
         moment,

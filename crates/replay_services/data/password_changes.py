@@ -39,7 +39,7 @@ class Request:
 
     def __init__(self, version=SET, client=("user",), realm=REALM, password=b"new password", target=None, target_realm=None, flags=INITIAL,
                  subkey=18, number=1000, own_number="same", pvno=5, kind=21, usage=13, under="subkey", user_data=None, behind=b"",
-                 service=SERVICE, session=18, private=None, ap=None, again=None, behind_frame=b""):
+                 service=SERVICE, session=18, private=None, ap=None, again=None, behind_frame=b"", options=0):
         Request.count += again is None
         self.__dict__.update(locals())
         self.micros = Request.count if again is None else again.micros
@@ -66,7 +66,7 @@ class Request:
             (6, None if self.subkey is None else key_of(self.subkey, self.sub_key())), (7, None if self.number is None else integer(self.number)),
         )
         own = encrypted(self.session, self.session_key(), 11, bytes(16), own)
-        return application(14, (0, integer(5)), (1, integer(14)), (2, bits(0)), (3, ticket), (4, own))
+        return application(14, (0, integer(5)), (1, integer(14)), (2, bits(self.options)), (3, ticket), (4, own))
 
     def change(self):
         if self.user_data is not None:

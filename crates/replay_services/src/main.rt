@@ -6,11 +6,13 @@
 mod contexts;
 mod password_changes;
 mod password_frames;
+mod password_replies;
 mod sequences;
 
 use contexts::replay_contexts;
 use password_changes::replay_password_changes;
 use password_frames::replay_password_frames;
+use password_replies::replay_password_replies;
 use sequences::replay_sequences;
 use std::env;
 
@@ -36,5 +38,6 @@ fn replay_recorded(rt: &HostRuntime) -> anyhow::Result<()> {
         replay_sequences(rt, name)?;
     }
     replay_password_frames(rt)?;
-    replay_password_changes(rt)
+    replay_password_changes(rt)?;
+    replay_password_replies(rt)
 }

@@ -14,13 +14,13 @@ use test_support::rows::replay;
 use test_support::{Row, Rows, Told, rows};
 
 /// The accounts that each request meets.
-const ACCOUNTS: &str = "realm\tR\t300\t36000\n\
+pub(crate) const ACCOUNTS: &str = "realm\tR\t300\t36000\n\
     other\taes128-cts-hmac-sha1-96\t1\t-\t01010101010101010101010101010101\n\
     root/admin\taes128-cts-hmac-sha1-96\t1\t-\t02020202020202020202020202020202\n\
     spent\taes128-cts-hmac-sha1-96\t4294967295\t-\t03030303030303030303030303030303\n\
     user\taes128-cts-hmac-sha1-96\t1\t-\t04040404040404040404040404040404\n";
 
-/// The random octets of each call. No request asks for a reply.
+/// The random octets of each call.
 const RANDOM: [u8; 16] = [0; 16];
 
 /// The service of the rows, and the rules of its realm.
@@ -53,7 +53,7 @@ impl Rows for Changes {
 }
 
 /// The service of a keytab in hexadecimal.
-fn service_of(alloc: Global, octets: &str) -> anyhow::Result<KeytabService> {
+pub(crate) fn service_of(alloc: Global, octets: &str) -> anyhow::Result<KeytabService> {
     let keytab = keytab_of(alloc, octets)?;
     let name = rows::components_of(alloc, "kadmin/changepw")?;
     Ok(KeytabService::new(alloc, b"R", &name, &keytab, 300)?)
@@ -117,7 +117,7 @@ fn is_of(own: &AccountLine, granted: &Granted) -> bool {
 }
 
 /// The rules of the realm of the rows.
-fn rules_of(alloc: Global) -> anyhow::Result<Rules> {
+pub(crate) fn rules_of(alloc: Global) -> anyhow::Result<Rules> {
     let name = rows::components_of(alloc, "root/admin")?;
     let admin = principal_name(alloc, components_of(alloc, &name)?)?;
     let weak = OctetStringAsn1::new(alloc, b"password")?;
