@@ -12,6 +12,7 @@ PROGRAMS = {
         Program("krb_accounts", "krb_accounts", 8, ["--version"]),
         Program("krb_kdcd", "krb_kdcd", 8, ["--version"]),
         Program("krb_keytab", "krb_keytab", 1, ["--version"]),
+        Program("krb_kpasswdd", "krb_kpasswdd", 8, ["--version"]),
         Program("krb_login", "krb_login", 1, ["--version"]),
         Program("krb_realm", "krb_realmd", 8, []),
         Program("krb_realm_check", "krb_realm_check", 8, ["data/settings.toml"]),
