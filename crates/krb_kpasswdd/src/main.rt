@@ -3,8 +3,8 @@
 //!
 //! A message is answered as `krb_password_changes` judges it. The service is `kadmin/changepw` of the realm of TEXT, with the key that its
 //! account has at the start. A client changes its own password. A name of a line `#admins` of TEXT sets that of any account. What is granted
-//! is done as `krb_accounts key` and `krb_accounts make` do it: the text is locked, and it and the database of it are replaced whole, the text
-//! first. The reply has the result code. It tells a success only where both files were replaced.
+//! is done as `krb_accounts key` and `krb_accounts make` do it. The text is locked. It and its database are replaced whole, the text first. The
+//! reply has the result code. It tells a success only where both files were replaced.
 //!
 //! A request is granted once in one run. So one process serves, and a listener has one worker for it. A run admits no request of a time before
 //! its start. So what another run has granted isn't granted again, unless the client's clock was ahead.

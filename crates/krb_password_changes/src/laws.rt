@@ -48,8 +48,8 @@ pub fn answered_once()
         → (after : List PairRecord) × AreOnce after × (length after ≡ 1 + length caller.admitted) × IsWindow seen after }
 {}
 
-/// What is judged was presented: the client of the ticket made the AP-REQ of the message under a key of the service, and the AP-REP answers
-/// that. It does nothing when it runs: its contract is the law.
+/// The AP-REQ of a message that is judged presents a ticket under a key of the service, and the admission has that ticket's client. The AP-REP
+/// answers its authenticator. It does nothing when it runs: its contract is the law.
 pub fn answered_as_presented()
     ensures { (caller : Caller) (rules : RulesRecord) (message : Bytes) (old new : List Line) (answer : Answer) (seen : SeenRecord)
         → IsAnswered caller rules message old (Ok answer) new seen

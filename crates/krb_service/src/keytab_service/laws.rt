@@ -101,9 +101,9 @@ pub fn unfit_is_refused()
         → (remembering_by_keytab service moment admitted bytes words).gives (Err (Krb (unfit_code_of service.entries (enc_part_in request))), admitted) }
 {}
 
-/// What is admitted with an AP-REP in any case (`remembering_unasked`) is admitted as well with one where it is asked for, and the admissions
-/// differ in the AP-REP alone. What is refused is refused as well. So each call is one of a run. What is admitted was presented, and its AP-REP
-/// has these fields. It does nothing when it runs: its contract is the law.
+/// What is admitted with an AP-REP in any case (`remembering_unasked`) is admitted by `remembering_by_keytab_with` too. The admissions differ in
+/// the AP-REP alone. What is refused is refused too. So each call is one of a run. What is admitted was presented, and its AP-REP has these
+/// fields. It does nothing when it runs: its contract is the law.
 pub fn unasked_as_asked()
     ensures admits { (service : KeytabServiceRecord) (fields : ReplyFields) (moment : ℕ) (admitted : List PairRecord) (bytes words : List ℕ)
         (admission : AdmissionRecord) (after : List PairRecord)
