@@ -1,11 +1,12 @@
 //! Reads recorded messages of Kerberos, tokens of the GSS-API, credentials of CredSSP, and messages of PKINIT and PKU2U as their
-//! types, compares them with what is expected, and writes them back. `x509`: the same of X.509 values, certificates and requests, also
-//! where a spelling deviates from DER, and their printed text.
+//! types, compares them with what is expected, and writes them back. `pacs` reads buffers of PACs. `x509`: the same of X.509 values,
+//! certificates and requests, also where a spelling deviates from DER, and their printed text.
 #![tactic(auto)]
 
 mod credentials;
 mod names;
 mod odd;
+mod pacs;
 mod private;
 mod replies;
 mod requests;
@@ -46,6 +47,7 @@ fn main(rt: HostRuntime) -> anyhow::Result<()> {
         replay(&rt, &Messages, file)?;
     }
     replay_tokens(&rt)?;
+    pacs::replay_pacs(&rt)?;
     replay(&rt, &Messages, "pkinit.txt")?;
     tokens::print_first(&rt, "pkinit.txt")?;
     x509::replay_x509(&rt)

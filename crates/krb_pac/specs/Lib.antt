@@ -1,0 +1,12 @@
+pub mod Reading
+pub mod Places
+pub mod Numbers
+pub mod Headers
+pub mod Arrays
+pub mod Texts
+pub mod Sids
+pub mod Groups
+pub mod ExtraSids
+pub mod LogonInfo
+pub mod Upn
+pub mod Attributes
