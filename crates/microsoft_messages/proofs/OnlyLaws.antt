@@ -27,6 +27,9 @@ kind-again kind.ClientClaimsInfo = refl
 kind-again kind.DeviceInfo = refl
 kind-again kind.DeviceClaimsInfo = refl
 kind-again kind.TicketChecksum = refl
+kind-again kind.AttributesInfo = refl
+kind-again kind.Requestor = refl
+kind-again kind.ExtendedKdcChecksum = refl
 
 kind-small : (k : PacBufferType) → kind_number k < 2 ^ 32
 kind-small kind.KerbValidationInfo = omega arith
@@ -40,6 +43,9 @@ kind-small kind.ClientClaimsInfo = omega arith
 kind-small kind.DeviceInfo = omega arith
 kind-small kind.DeviceClaimsInfo = omega arith
 kind-small kind.TicketChecksum = omega arith
+kind-small kind.AttributesInfo = omega arith
+kind-small kind.Requestor = omega arith
+kind-small kind.ExtendedKdcChecksum = omega arith
 
 not_few : (n m : ℕ) → m ≤ n → nat_lt n m ≡ false
 not_few n m many = grind (arith, nat_tests)

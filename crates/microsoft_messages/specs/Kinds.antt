@@ -17,12 +17,15 @@ kind_number kind.ClientClaimsInfo = 13
 kind_number kind.DeviceInfo = 14
 kind_number kind.DeviceClaimsInfo = 15
 kind_number kind.TicketChecksum = 16
+kind_number kind.AttributesInfo = 17
+kind_number kind.Requestor = 18
+kind_number kind.ExtendedKdcChecksum = 19
 
 abbrev pub kinds : List PacBufferType
 kinds =
     kind.KerbValidationInfo ∷ kind.Credentials ∷ kind.ServerChecksum ∷ kind.KdcChecksum ∷ kind.ClientInfo
     ∷ kind.ConstrainedDelegationInformation ∷ kind.UpnDnsInfo ∷ kind.ClientClaimsInfo ∷ kind.DeviceInfo
-    ∷ kind.DeviceClaimsInfo ∷ kind.TicketChecksum ∷ []
+    ∷ kind.DeviceClaimsInfo ∷ kind.TicketChecksum ∷ kind.AttributesInfo ∷ kind.Requestor ∷ kind.ExtendedKdcChecksum ∷ []
 
 -- the type that has this number
 abbrev pub kind_of : ℕ → Option PacBufferType

@@ -26,7 +26,7 @@ head_at stop whole =
     -- Version is 0 (MS-PAC, section 2.3). Test: `refusals` of `pac.rt`.
     else if nat_eq (le32_at 4 whole) 0 then Ok (le32_at 0 whole) else Err (InvalidVersion (le32_at 4 whole))
 
--- The ulType of a PAC_INFO_BUFFER is 1, 2, 6, 7 or one of 10 to 16 (MS-PAC, section 2.4). Test: `refusals` of `pac.rt`.
+-- The ulType of a PAC_INFO_BUFFER is 1, 2, 6, 7 or one of 10 to 19 (MS-PAC, section 2.4). Test: `refusals` of `pac.rt`.
 abbrev pub kind_at : Option ErrorKind → ℕ → List ℕ → Result PacBufferType PacError
 kind_at stop place whole = if nat_lt (length whole - place) 4 then Err (short_of stop) else kind_judged (le32_at place whole)
 

@@ -39,6 +39,15 @@ pub enum PacBufferType {
 
     /// The ticket's signature.
     TicketChecksum,
+
+    /// Whether the client asked for a PAC.
+    AttributesInfo,
+
+    /// The account that asked for the ticket.
+    Requestor,
+
+    /// The KDC's signature over the whole PAC.
+    ExtendedKdcChecksum,
 }
 
 /// The type's number.
@@ -58,6 +67,9 @@ impl From<PacBufferType> for u32 {
             PacBufferType::DeviceInfo => 14,
             PacBufferType::DeviceClaimsInfo => 15,
             PacBufferType::TicketChecksum => 16,
+            PacBufferType::AttributesInfo => 17,
+            PacBufferType::Requestor => 18,
+            PacBufferType::ExtendedKdcChecksum => 19,
         }
     }
 }
@@ -81,6 +93,9 @@ impl TryFrom<u32> for PacBufferType {
             14 => Ok(PacBufferType::DeviceInfo),
             15 => Ok(PacBufferType::DeviceClaimsInfo),
             16 => Ok(PacBufferType::TicketChecksum),
+            17 => Ok(PacBufferType::AttributesInfo),
+            18 => Ok(PacBufferType::Requestor),
+            19 => Ok(PacBufferType::ExtendedKdcChecksum),
             other => Err(PacError::PacBufferType(other)),
         }
     }
