@@ -76,6 +76,42 @@ impl Sid {
     }
 }
 
+impl Clone for Sid {
+    ghost is_clone = { λ sid copy. copy ≡ sid };
+
+    fn clone(&self) -> Result<Sid, AllocError> {
+        let parts = self.parts.clone()?;
+        Ok(Sid {
+            authority: self.authority,
+            parts,
+        })
+    }
+}
+
+/// SIDs are the same where their authorities and their parts are.
+impl PartialEq for Sid {
+    ghost use Rattle.std.specs.Bool.{nat_eq};
+    ghost use Rattle.std.specs.Cmp.Lexicographic.{pointwise};
+    ghost use Rattle.std.specs.Cmp.Rules.{comparing};
+    ghost use Rattle.std.specs.Ordering.{on, eq_of_both};
+    ghost use Rattle.std.proofs.Common.{rules};
+
+    ghost eq = { eq_of_both (on (λ s. s.authority) nat_eq) (on (λ s. s.parts) (pointwise nat_eq)) };
+
+    ghost laws = { Prim.search (comparing, rules) };
+
+    fn eq(&self, other: &Sid) -> bool {
+        self.authority == other.authority && self.parts.as_slice() == other.parts.as_slice()
+    }
+}
+
+impl Eq for Sid {
+    ghost use Rattle.std.specs.Cmp.Rules.{comparing};
+    ghost use Rattle.std.proofs.Common.{rules};
+
+    ghost laws = { Prim.search (comparing, rules) };
+}
+
 // What a SID states before its parts.
 #[derive(Clone, Copy)]
 struct SidHead {
