@@ -34,10 +34,6 @@ pub list-done : {A : Type 0} (one : ℕ → List ℕ → Result (A × ℕ) PacFa
 list-done {A = A} one xs n start count place whole none so_far =
     sym so_far ∙ ap (λ (k : ℕ). in_front xs (each_at one k place whole)) none ∙ ap (λ (l : List A). Ok (l, place)) (append-nil xs)
 
--- the rows that are left are this one and those behind it
-pub rows-left : (rows : List SidRow) (i : ℕ) (row : SidRow) → i < length rows → row ≡ get_or rows i row → drop i rows ≡ row ∷ drop (i + 1) rows
-rows-left rows i row inside is = drop_more rows i row inside ∙ ap (λ r. r ∷ drop (i + 1) rows) (sym is)
-
 -- the SIDs of the rows, by the first of them
 pub sids-left : (left rest : List SidRow) (row : SidRow) (place : ℕ) (whole : List ℕ) (first : Result (SidParts × ℕ) PacFault) → left ≡ row ∷ rest
     → rpc_sid_at place whole ≡ first → sids_at left place whole ≡ (first >>= (λ sid. in_front (extra_of sid.0 row ∷ []) (sids_at rest sid.1 whole)))
@@ -45,21 +41,24 @@ sids-left left rest row place whole first more is =
     ap (λ (l : List SidRow). sids_at l place whole) more
     ∙ ap (λ (r : Result (SidParts × ℕ) PacFault). r >>= (λ sid. in_front (extra_of sid.0 row ∷ []) (sids_at rest sid.1 whole))) is
 
--- one SID more is read
-pub sids-more : (left rest : List SidRow) (row : SidRow) (xs ys : List SidAndAttributes) (sid : SidParts) (place next : ℕ) (whole : List ℕ)
-    (said : Result (List SidAndAttributes × ℕ) PacFault) → left ≡ row ∷ rest → rpc_sid_at place whole ≡ Ok (sid, next)
-    → ys ≡ xs ++ extra_of sid row ∷ [] → in_front xs (sids_at left place whole) ≡ said → in_front ys (sids_at rest next whole) ≡ said
-sids-more left rest row xs ys sid place next whole said more is grown so_far =
-    let behind = sids_at rest next whole in
-    ap (λ (l : List SidAndAttributes). in_front l behind) grown ∙ front-join xs (extra_of sid row ∷ []) behind
-    ∙ ap (in_front xs) (sym (sids-left left rest row place whole (Ok (sid, next)) more is)) ∙ so_far
+-- one SID more is read, of the row at this index
+pub sids-more : (rows : List SidRow) (i : ℕ) (row : SidRow) (xs ys : List SidAndAttributes) (sid : SidParts) (place next : ℕ) (whole : List ℕ)
+    (said : Result (List SidAndAttributes × ℕ) PacFault) → ys ≡ xs ++ extra_of sid (get_or rows i row) ∷ [] → i < length rows
+    → rpc_sid_at place whole ≡ Ok (sid, next) → in_front xs (sids_at (drop i rows) place whole) ≡ said
+    → in_front ys (sids_at (drop (i + 1) rows) next whole) ≡ said
+sids-more rows i row xs ys sid place next whole said grown inside is so_far =
+    let this = get_or rows i row in
+    let behind = sids_at (drop (i + 1) rows) next whole in
+    ap (λ (l : List SidAndAttributes). in_front l behind) grown ∙ front-join xs (extra_of sid this ∷ []) behind
+    ∙ ap (in_front xs) (sym (sids-left (drop i rows) (drop (i + 1) rows) this place whole (Ok (sid, next)) (drop_more rows i row inside) is)) ∙ so_far
 
--- a SID is refused
-pub sids-refused : (left rest : List SidRow) (row : SidRow) (xs : List SidAndAttributes) (place : ℕ) (whole : List ℕ) (e : PacFault)
-    (said : Result (List SidAndAttributes × ℕ) PacFault) → left ≡ row ∷ rest → rpc_sid_at place whole ≡ Err e
-    → in_front xs (sids_at left place whole) ≡ said → said ≡ Err e
-sids-refused left rest row xs place whole e said more is so_far =
-    sym so_far ∙ ap (in_front xs) (sids-left left rest row place whole (Err e) more is)
+-- the SID of the row at this index is refused
+pub sids-refused : (rows : List SidRow) (i : ℕ) (row : SidRow) (xs : List SidAndAttributes) (place : ℕ) (whole : List ℕ) (e : PacFault)
+    (said : Result (List SidAndAttributes × ℕ) PacFault) → i < length rows → rpc_sid_at place whole ≡ Err e
+    → in_front xs (sids_at (drop i rows) place whole) ≡ said → said ≡ Err e
+sids-refused rows i row xs place whole e said inside is so_far =
+    let this = get_or rows i row in
+    sym so_far ∙ ap (in_front xs) (sids-left (drop i rows) (drop (i + 1) rows) this place whole (Err e) (drop_more rows i row inside) is)
 
 -- all SIDs are read
 pub sids-done : (left : List SidRow) (xs : List SidAndAttributes) (place : ℕ) (whole : List ℕ) (said : Result (List SidAndAttributes × ℕ) PacFault)
