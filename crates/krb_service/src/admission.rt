@@ -3,20 +3,20 @@ ghost use Rattle.std.specs.Prelude.{◌≡◌, ◌≤◌, false, length, IfOk};
 ghost use Rattle.std.specs.Option.{option_map};
 ghost use Rattle.krb_messages.specs.RandomBytes.{AreEnoughForApReply};
 ghost use Rattle.krb_ap_requests.specs.ApTable.{starttime_of};
-ghost use Rattle.krb_service.specs.Admission.{admission_of, checksum_of, seq_number_of, subkey_of};
+ghost use Rattle.krb_service.specs.Admission.{admission_of, authorization_data_of, checksum_of, seq_number_of, subkey_of};
 ghost use Rattle.krb_service.specs.ApReply.{HasSessionKey, IsReplyTo, IsReplyWith, random_size};
 
 use crate::reply::{ReplyFields, ap_reply};
 use krb_ap_requests::{Presented, starttime_of};
 use krb_crypto::Key;
 use krb_messages::data_types::{
-    AuthenticatorInner, Checksum, EncTicketPartInner, EncryptionKey, KerberosFlags, PrincipalName,
-    Realm,
+    AuthenticatorInner, AuthorizationData, Checksum, EncTicketPartInner, EncryptionKey,
+    KerberosFlags, PrincipalName, Realm,
 };
 use krb_tickets::key_of;
 use picky_asn1::date::GeneralizedTime;
 use picky_asn1::wrapper::IntegerAsn1;
-use picky_asn1_der::ExplicitContextTag;
+use picky_asn1_der::{ExplicitContextTag, Optional};
 use std::alloc::{AllocError, Global};
 use std::marker::Model;
 
@@ -40,6 +40,8 @@ pub struct Admission {
     pub endtime: GeneralizedTime,
     /// The ticket's flags, which `krb_constants::ticket_flags` numbers (RFC 4120, section 5.3).
     pub flags: KerberosFlags,
+    /// The ticket's authorization data, if it has any (RFC 4120, section 5.2.6). The service doesn't judge it.
+    pub authorization_data: Option<AuthorizationData>,
     /// The key that the client chose for what follows, if it chose one.
     pub subkey: Option<EncryptionKey>,
     /// The authenticator's checksum (RFC 4120, section 5.5.1). The service doesn't judge it.
@@ -64,6 +66,7 @@ impl Model for Admission {
       starttime = a.starttime;
       endtime = a.endtime;
       flags = a.flags;
+      authorization_data = a.authorization_data;
       subkey = a.subkey;
       checksum = a.checksum;
       seq_number = a.seq_number;
@@ -93,7 +96,7 @@ struct Taken {
 
 // Makes the admission of the ticket's client, with the authenticator's fields and this AP-REP.
 fn admission_with(part: EncTicketPartInner, taken: Taken, reply: Option<Vec<u8>>) -> Admission
-    ensures { result ≡ record { realm = part.crealm.0; client = part.cname.0; session = part.key.0; authtime = part.auth_time.0.0; starttime = starttime_of part; endtime = part.endtime.0.0; flags = part.flags.0; subkey = taken.subkey; checksum = taken.checksum; seq_number = taken.seq_number; reply = option_map (λ v. v.items) reply } }
+    ensures { result ≡ record { realm = part.crealm.0; client = part.cname.0; session = part.key.0; authtime = part.auth_time.0.0; starttime = starttime_of part; endtime = part.endtime.0.0; flags = part.flags.0; authorization_data = authorization_data_of part; subkey = taken.subkey; checksum = taken.checksum; seq_number = taken.seq_number; reply = option_map (λ v. v.items) reply } }
 {
     let authtime = part.auth_time.0.0;
     let starttime = starttime_of(&part);
@@ -103,6 +106,7 @@ fn admission_with(part: EncTicketPartInner, taken: Taken, reply: Option<Vec<u8>>
         key: ExplicitContextTag(session),
         crealm: ExplicitContextTag(realm),
         cname: ExplicitContextTag(client),
+        authorization_data: Optional(data),
         ..
     } = part;
     let Taken {
@@ -118,6 +122,7 @@ fn admission_with(part: EncTicketPartInner, taken: Taken, reply: Option<Vec<u8>>
         starttime,
         endtime,
         flags,
+        authorization_data: untagged(data),
         subkey,
         checksum,
         seq_number,
