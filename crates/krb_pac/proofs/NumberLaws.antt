@@ -1,15 +1,14 @@
 -- A number is read exactly where its octets are laid.
-use Rattle.std.proofs.Common.{◌≡◌, ℕ, ◌+◌, ◌-◌, ◌%◌, ◌^◌, ◌<◌, ◌≤◌, List, [], ◌++◌, length, get_or, take, drop, Result, Ok, Err, nat_lt, refl, ap, sym, subst, ◌∙◌, append-nil, arith}
-use Rattle.std.proofs.lemmas.List.{places, take_all, length-drop}
+use Rattle.std.proofs.Common.{◌≡◌, ℕ, ◌+◌, ◌-◌, ◌^◌, ◌<◌, ◌≤◌, List, [], ◌++◌, length, take, drop, Result, Ok, nat_lt, refl, ap, sym, subst, ◌∙◌, append-nil, arith}
+use Rattle.std.proofs.lemmas.List.{places}
 use Rattle.std.proofs.lemmas.Nat.{le_bytes_2}
 use Rattle.std.specs.Int.{w16, from_le_bytes}
 use Rattle.byteorder.specs.Endian.{little_bytes, little_number}
 use Rattle.byteorder.specs.Numbers.{little_from-take, little_number-reads_back, length-bytes_low_first}
 use Rattle.byte_streams.specs.Parts.{part, Stands}
 use Rattle.byte_streams.specs.Numbers.{le32, le32_at}
-use Rattle.byte_streams.proofs.NumberLaws.{AreBytes, bytes-cut, all-behind, le32-again}
+use Rattle.byte_streams.proofs.NumberLaws.{AreBytes, bytes-cut, le32-again}
 use Rattle.krb_pac.specs.declared.error.PacFault.{PacFault}
-use Rattle.krb_pac.specs.Reading.{◌>>=◌}
 use Rattle.krb_pac.specs.Places.{gap, aligned, start_at, IsLaid}
 use Rattle.krb_pac.specs.Numbers.{le16, le16_at, u16_at, u32_at}
 use Rattle.krb_pac.proofs.Steps.{step-ok, if-ok, enough, fits}

@@ -10,3 +10,8 @@ pub mod ExtraSids
 pub mod LogonInfo
 pub mod Upn
 pub mod Attributes
+pub mod Table
+pub mod Signature
+pub mod ClientInfo
+pub mod AuthorizationData
+pub mod Verified

@@ -1,21 +1,28 @@
-//! What the buffers of a PAC state of a client (MS-PAC): the account, its groups and names, and who asked for the ticket.
+//! The PAC of a ticket, by which a Windows realm describes a client to a service (MS-PAC): the account, its groups and names, and who asked
+//! for the ticket.
 //!
+//! - [`verified_pac`] finds the PAC in an admitted ticket's authorization data, and verifies its server signature and its client.
 //! - [`LogonInfo`] is KERB_VALIDATION_INFO (MS-PAC, section 2.5). It is a value of NDR (C706, chapter 14), in type serialization of version 1
 //!   and little endian (MS-RPCE, section 2.2.6).
-//! - [`UpnDnsInfo`] is UPN_DNS_INFO (section 2.10), [`PacAttributes`] PAC_ATTRIBUTES_INFO (section 2.14), and [`PacRequestor`] PAC_REQUESTOR
-//!   (section 2.15). These are layouts of their own.
+//! - [`UpnDnsInfo`] is UPN_DNS_INFO (section 2.10), [`PacAttributes`] PAC_ATTRIBUTES_INFO (section 2.14), [`PacRequestor`] PAC_REQUESTOR
+//!   (section 2.15), and [`PacClientInfo`] PAC_CLIENT_INFO (section 2.7). These are layouts of their own.
 //!
 //! A pointer of NDR is a unique one: zero, or a number that says that its referent follows. Referents are deferred: each is read behind the
 //! structure that it is of, in the order of the pointers (C706, section 14.3.12.3). No number leads back to an earlier referent, so there
 //! are no cycles. Octets of a gap before a number have any value.
 //!
-//! Each `read` returns the value that its octets have by the definition in specs/, or the refusal by its name, unless memory runs out
-//! (`logon_info`, `upn_dns_info`, `pac_attributes`, `sid_of_all`). So octets have one reading at most. A number of NDR is read exactly where
-//! its octets are at the first multiple of its size, within the input (`IsLaid`, law `numbers_are_read`). Values of an array are kept only
-//! once their octets are read, so no count takes memory past the input.
+//! `verified_pac` returns the only PAC of a ticket if the server signature is the checksum, under the service's key, of the PAC with both
+//! signatures zero, and if the PAC states the ticket's client and authtime (`Verifies`). It returns the first refusal by its name otherwise,
+//! unless memory runs out. Authorization data has one PAC at most (law `one_pac`). Each `read` returns the value that its octets have by the
+//! definition in specs/, or the refusal by its name, unless memory runs out (`logon_info`, `upn_dns_info`, `pac_attributes`, `client_info`,
+//! `sid_of_all`). So octets have one reading at most. A number of NDR is read exactly where its octets are at the first multiple of its
+//! size, within the input (`IsLaid`, law `numbers_are_read`). Values of an array are kept only once their octets are read, so no count takes
+//! memory past the input.
 #![tactic(auto)]
 
 mod attributes;
+mod authorization_data;
+mod client_info;
 mod error;
 mod extra_sids;
 mod groups;
@@ -27,9 +34,14 @@ mod ndr;
 mod requestor;
 mod resource_groups;
 mod sid;
+mod signature;
+mod table;
 mod upn;
+mod verified;
 
 pub use attributes::PacAttributes;
+pub use authorization_data::one_pac;
+pub use client_info::PacClientInfo;
 pub use error::PacFault;
 pub use extra_sids::ExtraSid;
 pub use groups::GroupMembership;
@@ -42,3 +54,4 @@ pub use requestor::PacRequestor;
 pub use resource_groups::ResourceGroups;
 pub use sid::Sid;
 pub use upn::{UpnAccount, UpnDnsInfo};
+pub use verified::{VerifiedPac, verified_elements, verified_pac};

@@ -1,5 +1,5 @@
 //! Names of an account (MS-PAC, section 2.5).
-ghost use Rattle.std.specs.Prelude.{◌≡◌, ◌+◌, ◌≤◌, length};
+ghost use Rattle.std.specs.Prelude.{◌+◌, ◌≤◌, length};
 ghost use Rattle.krb_pac.specs.Reading.{Gives};
 ghost use Rattle.krb_pac.specs.LogonInfo.{three_texts_at, names_at};
 

@@ -73,9 +73,9 @@ fn field_at(bytes: &[u8], place: usize) -> Result<&[u8], PacFault>
     Ok(&bytes[offset..offset + size])
 }
 
-// Reads the text that these octets are.
+/// Reads the UTF-16 text that these octets are.
 #[tactic(auto, unfolding(crate::specs::Upn::text_of_all))]
-fn text_of_all(alloc: Global, bytes: &[u8]) -> Result<Vec<u16>, PacFault>
+pub(crate) fn text_of_all(alloc: Global, bytes: &[u8]) -> Result<Vec<u16>, PacFault>
     ensures { Gives (λ text. text.items) result (text_of_all bytes.now) }
 {
     if bytes.len() % 2 != 0 {
