@@ -375,7 +375,8 @@ def other_rows(dice):
         row("attributes", octets)
 
 
-dice = random.Random(87)
-print("# Buffers of PACs by pac.py: the kind | the octets in hexadecimal | what they state, or 'refused' and the fault.")
-logon_rows(dice)
-other_rows(dice)
+if __name__ == "__main__":
+    dice = random.Random(87)
+    print("# Buffers of PACs by pac.py: the kind | the octets in hexadecimal | what they state, or 'refused' and the fault.")
+    logon_rows(dice)
+    other_rows(dice)

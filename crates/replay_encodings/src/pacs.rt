@@ -1,4 +1,6 @@
-//! Buffers of PACs. `data/pac.py` writes the rows.
+//! Buffers of PACs, and PACs in authorization data. `data/pac.py` and `data/verified_pac.py` write the rows.
+mod verified;
+
 use krb_pac::{
     ExtraSid, GroupMembership, LogonDomain, LogonInfo, LogonNames, LogonNumbers, LogonTimes,
     PacAttributes, PacFault, PacRequestor, ResourceGroups, UpnDnsInfo,
@@ -11,9 +13,10 @@ use test_support::{Row, Rows, Told};
 #[derive(Clone, Copy)]
 struct Buffers;
 
-/// Replays the rows on buffers.
+/// Replays the rows on buffers, and on PACs.
 pub fn replay_pacs(rt: &HostRuntime) -> anyhow::Result<()> {
-    replay(rt, &mut Buffers, "pac.txt")
+    replay(rt, &mut Buffers, "pac.txt")?;
+    verified::replay_verified(rt)
 }
 
 impl Rows for Buffers {
@@ -196,9 +199,13 @@ fn tell_requestor(told: &mut Told, alloc: Global, octets: &[u8]) {
     }
 }
 
+fn tell_flags(told: &mut Told, attributes: PacAttributes) {
+    tell_pair(told, &attributes.flags_length, " ", &attributes.flags);
+}
+
 fn tell_attributes(told: &mut Told, octets: &[u8]) {
     match PacAttributes::read(octets) {
-        Ok(attributes) => tell_pair(told, &attributes.flags_length, " ", &attributes.flags),
+        Ok(attributes) => tell_flags(told, attributes),
         Err(fault) => refused(told, fault),
     }
 }
