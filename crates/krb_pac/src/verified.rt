@@ -1,4 +1,4 @@
-//! The PAC of a ticket that a service admitted (MS-PAC, section 3.2).
+//! The PAC of a ticket by which a client was admitted (MS-PAC, sections 2.7 and 2.8.1).
 ghost use Rattle.std.specs.Prelude.{◌≡◌, [], unwrap_or};
 ghost use Rattle.std.specs.Option.{option_map};
 ghost use Rattle.asn1_leaves.specs.GeneralizedTime.{seconds_of};
