@@ -102,7 +102,7 @@ as_table call rows of_client of_service request =
     need (client_of (body_of request)) KDC_ERR_C_PRINCIPAL_UNKNOWN (λ client_name.
     -- `cname` has an account (RFC 4120, section 3.1.3). Test: `as client unknown`.
     need of_client KDC_ERR_C_PRINCIPAL_UNKNOWN (λ client.
-    -- `sname` is there (RFC 4120, section 3.1.3). Test: `as service absent`.
+    -- `sname` is there (RFC 4120, section 5.4.1). Test: `as service absent`.
     need (service_of (body_of request)) KDC_ERR_S_PRINCIPAL_UNKNOWN (λ service_name.
     -- `sname` has an account (RFC 4120, section 3.1.3). Test: `as service unknown`.
     need of_service KDC_ERR_S_PRINCIPAL_UNKNOWN (λ service.

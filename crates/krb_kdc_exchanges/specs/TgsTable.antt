@@ -322,7 +322,7 @@ abbrev pub tgs_granted : CallRecord → EncTicketPartInner → Authenticated →
 tgs_granted call part authenticated body =
     -- The ticket's client still has an account (RFC 4120, section 3.3.3). Test: `tgs client no account, service unknown`.
     refuse (not (has_account call part.cname.0)) KDC_ERR_C_PRINCIPAL_UNKNOWN
-    -- `sname` is there (RFC 4120, section 3.3.3). Test: `tgs service absent`.
+    -- `sname` is there (RFC 4120, section 5.4.1). Test: `tgs service absent`.
     (need (service_of body) KDC_ERR_S_PRINCIPAL_UNKNOWN (λ service_name.
     -- `sname` has an account (RFC 4120, section 3.3.3). Test: `tgs service unknown`.
     need (call.look (components service_name)) KDC_ERR_S_PRINCIPAL_UNKNOWN (λ service.
