@@ -105,6 +105,7 @@ chosen choice words admission made established tells by is = record {
   starttime = ap (λ (e : EstablishedRecord). e.starttime) is ∙ tells.starttime;
   endtime = ap (λ (e : EstablishedRecord). e.endtime) is ∙ tells.endtime;
   ticket_flags = ap (λ (e : EstablishedRecord). e.ticket_flags) is ∙ tells.flags;
+  authorization_data = ap (λ (e : EstablishedRecord). e.authorization_data) is ∙ tells.authorization_data;
   initial = ap initial_in (sym tells.checksum) ∙ by.initial ∙ ap (λ (e : EstablishedRecord). Ok (record { bindings = e.bindings; flags = e.flags })) (sym is);
   first = established.context.taking;
   number = ap first_number (sym tells.seq_number) ∙ by.number ∙ ap (λ (e : EstablishedRecord). Ok e.context.taking) (sym is);
@@ -145,6 +146,7 @@ kept choice established after reply is follows = record {
   starttime = is.starttime;
   endtime = is.endtime;
   ticket_flags = is.ticket_flags;
+  authorization_data = is.authorization_data;
   initial = is.initial;
   first = is.first;
   number = is.number;

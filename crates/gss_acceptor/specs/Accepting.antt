@@ -124,6 +124,7 @@ established_of admission made = record {
   starttime = admission.starttime;
   endtime = admission.endtime;
   ticket_flags = admission.flags;
+  authorization_data = admission.authorization_data;
   bindings = made.initial.bindings;
   flags = made.initial.flags;
   context = made.context;

@@ -11,13 +11,14 @@ use crate::judge::{Judged, judge};
 use crate::refusal::AcceptRefusal;
 use crate::terms::AcceptorTerms;
 use gss_contexts::Context;
-use krb_messages::data_types::{KerberosFlags, PrincipalName, Realm};
+use krb_messages::data_types::{AuthorizationData, KerberosFlags, PrincipalName, Realm};
 use krb_service::Admission;
 use picky_asn1::date::GeneralizedTime;
 use std::alloc::Global;
 use std::marker::Model;
 
-/// A context that is established: the client, its ticket's times and flags, the flags that it asks for, and the acceptor's end.
+/// A context that is established: the client, its ticket's times, flags and authorization data, the flags that it asks for, and the
+/// acceptor's end.
 ///
 /// A context's tokens don't end with its ticket. A caller that requires this asks `Context::check_end` before each token: it refuses past the
 /// ticket's endtime with the service's skew.
@@ -35,6 +36,8 @@ pub struct Established {
     pub endtime: GeneralizedTime,
     /// The ticket's flags, which `krb_constants::ticket_flags` numbers (RFC 4120, section 5.3).
     pub ticket_flags: KerberosFlags,
+    /// The ticket's authorization data, if it has any (RFC 4120, section 5.2.6). The acceptor doesn't judge it.
+    pub authorization_data: Option<AuthorizationData>,
     /// The hash of the initiator's channel bindings, or zeros (RFC 4121, section 4.1.1.2). It was judged only if the acceptor has some.
     pub bindings: [u8; 16],
     /// The flags that the initiator asks for. By that of sequencing the context takes no token after a gap. Where the flag of mutual
@@ -60,6 +63,7 @@ impl Model for Established {
       starttime = e.starttime;
       endtime = e.endtime;
       ticket_flags = e.ticket_flags;
+      authorization_data = e.authorization_data;
       bindings = e.bindings;
       flags = e.flags;
       context = e.context;
@@ -111,7 +115,7 @@ fn answered(
 
 // The context with its client and the answer to it.
 fn completed(admission: Admission, judged: Judged, reply: Option<Vec<u8>>) -> Established
-    ensures { result ≡ record { realm = admission.realm; client = admission.client; authtime = admission.authtime; starttime = admission.starttime; endtime = admission.endtime; ticket_flags = admission.flags; bindings = judged.initial.bindings; flags = judged.initial.flags; context = judged.context; reply = option_map (λ v. v.items) reply } }
+    ensures { result ≡ record { realm = admission.realm; client = admission.client; authtime = admission.authtime; starttime = admission.starttime; endtime = admission.endtime; ticket_flags = admission.flags; authorization_data = admission.authorization_data; bindings = judged.initial.bindings; flags = judged.initial.flags; context = judged.context; reply = option_map (λ v. v.items) reply } }
 {
     let Judged { initial, context } = judged;
     let Admission {
@@ -121,6 +125,7 @@ fn completed(admission: Admission, judged: Judged, reply: Option<Vec<u8>>) -> Es
         starttime,
         endtime,
         flags: ticket_flags,
+        authorization_data,
         ..
     } = admission;
     let InitialChecksum { bindings, flags } = initial;
@@ -131,6 +136,7 @@ fn completed(admission: Admission, judged: Judged, reply: Option<Vec<u8>>) -> Es
         starttime,
         endtime,
         ticket_flags,
+        authorization_data,
         bindings,
         flags,
         context,

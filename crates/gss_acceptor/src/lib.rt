@@ -3,10 +3,10 @@
 //!
 //! `Acceptor::accept` and `Acceptor::resume` do what the table of tokens says, and refuse what it refuses (`Handles`). An AP-REQ makes a
 //! context if and only if its service admits it (`Admitter`) and the admission fits a context, unless memory runs out (`Establishes`,
-//! `judged`). The service has one key, or a keytab's keys, which may be replaced while it runs: no client and time begins two contexts
-//! (law `once_for_ever`). The context has the name, times, flags and bindings that the client presented, and its key or the acceptor's
-//! subkey (law `established_as_presented`). Where SPNEGO doesn't offer Kerberos first, a context is handed out only after the initiator's
-//! MIC was verified (law `established_under_mic`).
+//! `judged`). The service has one key, or a keytab's keys, which may be replaced while it runs: no client and time begins two contexts (law
+//! `once_for_ever`). The context has the name, times, flags, authorization data and bindings that the client presented, and its key or the
+//! acceptor's subkey (law `established_as_presented`). Where SPNEGO doesn't offer Kerberos first, a context is handed out only after the
+//! initiator's MIC was verified (law `established_under_mic`).
 #![tactic(auto)]
 
 mod accepted;
