@@ -1,5 +1,5 @@
 -- PAC_SIGNATURE_DATA, and the server signature (MS-PAC, sections 2.8 and 2.8.1).
-use Rattle.std.specs.Prelude.{ℕ, ◌+◌, ◌-◌, ◌*◌, ◌/◌, nat_eq, nat_lt, Bool, false, List, length, drop, replicate, Result, Ok, Err, if◌then◌else◌}
+use Rattle.std.specs.Prelude.{ℕ, ◌+◌, ◌-◌, nat_eq, nat_lt, Bool, false, List, length, drop, replicate, Result, Ok, Err, if◌then◌else◌}
 use Rattle.std.specs.Cmp.Lexicographic.{pointwise}
 use Rattle.byte_streams.specs.Numbers.{le32_at}
 use Rattle.byte_streams.specs.Parts.{part, put}
@@ -18,19 +18,15 @@ use Rattle.krb_pac.specs.declared.table.PacRow.{PacRow}
 use Rattle.krb_pac.specs.Table.{needed_row, content_of}
 use Rattle.krb_pac.specs.Reading.{◌>>=◌}
 
--- How many octets a Signature has: those behind SignatureType, in words of four. RODCIdentifier, two octets, is no part of it.
-unfoldable pub signature_size : ℕ → ℕ
-signature_size size = (size - 4) / 4 * 4
-
--- The PAC with a zero Signature in the buffer of this row.
+-- The PAC with zeros behind SignatureType in the buffer of this row.
 unfoldable pub zeroed : PacRow → List ℕ → Result (List ℕ) PacFault
 zeroed row whole =
     if nat_lt row.size 4 then Err Short
     else if nat_lt (length whole) (row.offset + row.size) then Err Range
-    else Ok (put (part (row.offset + 4) (replicate (signature_size row.size) 0)) whole)
+    else Ok (put (part (row.offset + 4) (replicate (row.size - 4) 0)) whole)
 
--- The server signature is of the PAC with a zero Signature in the buffers of both signatures (MS-PAC, section 2.8.1). Test:
--- `refused Signature` of `verified_pac.txt`.
+-- The server signature is of the PAC in which all octets behind SignatureType are zero in the buffers of both signatures (MS-PAC, section
+-- 2.8.1). Test: `refused Signature` of `verified_pac.txt`.
 unfoldable pub signed_octets : PacRow → PacRow → List ℕ → Result (List ℕ) PacFault
 signed_octets server kdc whole = zeroed server whole >>= zeroed kdc
 

@@ -1,7 +1,7 @@
 //! PAC_SIGNATURE_DATA, and the server signature of a PAC (MS-PAC, sections 2.8 and 2.8.1).
-ghost use Rattle.std.specs.Prelude.{◌≡◌, ◌+◌, ◌≤◌, replicate, vec_len, IfOk};
+ghost use Rattle.std.specs.Prelude.{◌≡◌, replicate, vec_len, IfOk};
 ghost use Rattle.krb_pac.specs.Reading.{Gives};
-ghost use Rattle.krb_pac.specs.Signature.{signature_size, zeroed, signed_octets, is_signature_type, signed_by, signature_judged};
+ghost use Rattle.krb_pac.specs.Signature.{zeroed, signed_octets, is_signature_type, signed_by, signature_judged};
 
 use crate::error::PacFault;
 use crate::table::{PacRow, content_of, needed_row};
@@ -17,16 +17,6 @@ pub(crate) const SIGNATURE_USAGE: i32 = 17;
 /// The octets of SignatureType.
 const TYPE_SIZE: usize = 4;
 
-// Returns how many octets the Signature has in a buffer of so many.
-#[tactic(auto, unfolding(crate::specs::Signature::signature_size))]
-fn signature_size(size: u32) -> usize
-    requires { 4 ≤ size }
-    ensures value { result ≡ signature_size size }
-    ensures small { result + 4 ≤ size }
-{
-    (size as usize - TYPE_SIZE) / 4 * 4
-}
-
 // Makes so many zeros.
 fn zeros(alloc: Global, size: usize) -> Result<Vec<u8>, AllocError>
     ensures value { IfOk result (λ v. v.items ≡ replicate size 0) }
@@ -35,7 +25,7 @@ fn zeros(alloc: Global, size: usize) -> Result<Vec<u8>, AllocError>
     Ok(vec![in alloc; 0u8; size]?)
 }
 
-// Makes the Signature in the buffer of this row zero.
+// Makes all octets behind SignatureType in the buffer of this row zero.
 #[tactic(auto, unfolding(crate::specs::Signature::zeroed))]
 fn zeroed(alloc: Global, octets: Vec<u8>, row: PacRow) -> Result<Vec<u8>, PacFault>
     ensures { Gives (λ v. v.items) result (zeroed row octets.items) }
@@ -47,7 +37,7 @@ fn zeroed(alloc: Global, octets: Vec<u8>, row: PacRow) -> Result<Vec<u8>, PacFau
     if (octets.len() as u128) < u128::from(row.offset) + u128::from(row.size) {
         return Err(PacFault::Range);
     }
-    let zero = zeros(alloc, signature_size(row.size))?;
+    let zero = zeros(alloc, row.size as usize - TYPE_SIZE)?;
     put_at(&mut octets, row.offset as usize + TYPE_SIZE, &zero);
     Ok(octets)
 }

@@ -237,7 +237,7 @@ def zeroed(pac, row):
     if size < 4:
         raise Refused("Short")
     content_of(pac, row)
-    return changed(pac, offset + 4, bytes((size - 4) // 4 * 4))
+    return changed(pac, offset + 4, bytes(size - 4))
 
 
 def judge_signature(pac, etype, key):
@@ -324,12 +324,13 @@ def good_rows(dice, keys):
         for other, other_key in keys.items():
             if other != etype:
                 row(other, other_key, carried(signed(pac, etype, key)))
-    # HMAC-MD5 for the KDC signature, and a KDC that is read only: RODCIdentifier is signed.
-    for kdc in (struct.pack("<I", 0xFFFFFF76) + bytes(16), struct.pack("<I", 16) + bytes(12) + b"\x34\x12"):
-        pac = filled(signed(pac_octets(buffers_of(18, kdc=kdc)), 18, keys[18]), dice.randbytes(len(kdc) - 4 & ~3))
+    # HMAC-MD5 for the KDC signature, and a KDC that is read only: RODCIdentifier, behind its Signature, isn't signed.
+    for kdc in (struct.pack("<I", 0xFFFFFF76) + bytes(16), struct.pack("<I", 16) + bytes(14)):
+        pac = filled(signed(pac_octets(buffers_of(18, kdc=kdc)), 18, keys[18]), dice.randbytes(len(kdc) - 4))
         row(18, keys[18], carried(pac))
         offset, size = place_of(pac, KDC)
         row(18, keys[18], carried(changed(pac, offset + size - 1, bytes([pac[offset + size - 1] ^ 1]))))
+    row(18, keys[18], carried(signed(pac_octets(buffers_of(18, kdc=struct.pack("<I", 16) + bytes(12) + b"\x34\x12")), 18, keys[18])))
     # A key of triple DES.
     row(16, bytes.fromhex("850bb51358548cd05e86768c313e3bfef7511937dcf72c3e"), carried(pac_octets(
         buffers_of(18)[:3] + [(SERVER, struct.pack("<I", 12) + bytes(20)), (KDC, struct.pack("<I", 12) + bytes(20))])))
