@@ -1,4 +1,4 @@
-//! Buffers of PACs, and PACs in authorization data. `data/pac.py` and `data/verified_pac.py` write the rows.
+//! Buffers of PACs, and PACs in authorization data. `data/pac.py`, `data/verified_pac.py` and `data/samba_pac.py` write the rows.
 mod verified;
 
 use krb_pac::{
@@ -15,7 +15,9 @@ struct Buffers;
 
 /// Replays the rows on buffers, and on PACs.
 pub fn replay_pacs(rt: &HostRuntime) -> anyhow::Result<()> {
-    replay(rt, &mut Buffers, "pac.txt")?;
+    for file in &["pac.txt", "samba_logon.txt"] {
+        replay(rt, &mut Buffers, file)?;
+    }
     verified::replay_verified(rt)
 }
 

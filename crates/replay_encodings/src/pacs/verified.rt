@@ -1,4 +1,4 @@
-//! PACs in authorization data, verified under a service's key. `data/verified_pac.py` writes the rows.
+//! PACs in authorization data, verified under a service's key. `data/verified_pac.py` and `data/samba_pac.py` write the rows.
 use super::{refused, tell_flags, tell_upn_names};
 use anyhow::Context;
 use krb_crypto::{CipherSuite, Key};
@@ -16,7 +16,10 @@ struct Pacs;
 
 /// Replays the rows on PACs.
 pub(crate) fn replay_verified(rt: &HostRuntime) -> anyhow::Result<()> {
-    replay(rt, &mut Pacs, "verified_pac.txt")
+    for file in &["verified_pac.txt", "samba_pac.txt"] {
+        replay(rt, &mut Pacs, file)?;
+    }
+    Ok(())
 }
 
 impl Rows for Pacs {
