@@ -9,15 +9,16 @@
 //!
 //! A pointer of NDR is a unique one: zero, or a number that says that its referent follows. Referents are deferred: each is read behind the
 //! structure that it is of, in the order of the pointers (C706, section 14.3.12.3). No number leads back to an earlier referent, so there
-//! are no cycles. Octets of a gap before a number have any value.
+//! are no cycles. Octets of a gap before a number have any value. Values of an array are kept only once their octets are read, so no count
+//! takes memory past the input.
 //!
-//! `verified_pac` returns the only PAC of a ticket if the server signature is the checksum, under the service's key, of the PAC with both
-//! signatures zero, and if the PAC states the ticket's client and authtime (`Verifies`). It returns the first refusal by its name otherwise,
-//! unless memory runs out. Authorization data has one PAC at most (law `one_pac`). Each `read` returns the value that its octets have by the
-//! definition in specs/, or the refusal by its name, unless memory runs out (`logon_info`, `upn_dns_info`, `pac_attributes`, `client_info`,
-//! `sid_of_all`). So octets have one reading at most. A number of NDR is read exactly where its octets are at the first multiple of its
-//! size, within the input (`IsLaid`, law `numbers_are_read`). Values of an array are kept only once their octets are read, so no count takes
-//! memory past the input.
+//! What `verified_pac` returns is the only PAC of the ticket. Its server signature is the checksum, under the service's key, of the PAC
+//! with zeros behind SignatureType in both signature buffers, and it states the ticket's client and authtime (`Verifies`). Otherwise the
+//! call returns the first refusal by its name, unless memory runs out. Elements of authorization data have one PAC, or one reason why they
+//! have none (law `one_pac`). Each `read` returns the value that its octets have by the definition in specs/, or the refusal by its name,
+//! unless memory runs out (`logon_info`, `upn_dns_info`, `pac_attributes`, `client_info`, `sid_of_all`). So octets have one reading at
+//! most. A number of NDR is read where its octets are laid at the first multiple of its size, within the input (`IsLaid`, law
+//! `numbers_are_read`).
 #![tactic(auto)]
 
 mod attributes;
