@@ -1,5 +1,6 @@
 //! Tests of single calls: worked values of encryption, where no line of `replay_crypto` makes the call, and worked keys of X.509.
-//! Streams over whole, slow and failing devices. Worked values of moments, names, accounts and what services remember.
+//! Streams over whole, slow and failing devices. Worked values of moments, names, accounts and what services remember. `encodings`: worked
+//! values of DER, of its leaf types and of binary layouts.
 #![tactic(auto)]
 
 #[cfg(test)]
@@ -12,6 +13,7 @@ mod curves;
 mod des;
 #[cfg(test)]
 mod digests;
+mod encodings;
 #[cfg(test)]
 mod moments;
 #[cfg(test)]

@@ -1,5 +1,4 @@
 //! Worked values of DER and of the leaf types: the examples of the standards. Binary layouts over published rows (`layouts`).
-#![tactic(auto)]
 
 #[cfg(test)]
 mod built_in;
