@@ -1,11 +1,11 @@
 #!/bin/sh
 # MIT's and Heimdal's klist list credential caches that the crate krb_file_formats writes: the credentials of each stock cache in
-# crates/replay_files/data in reverse order, in a cache without header tags. Each klist must say the same of them as of the stock
+# crates/replay_encodings/data in reverse order, in a cache without header tags. Each klist must say the same of them as of the stock
 # cache, but for the order. It must refuse the same cache cut short. Prints what each gave; the status is 1 where one differs from
 # what it should, and 2 where a tool is missing. All files are in a temporary folder.
 #
 # Heimdal's heimtools is that on the path (Debian: heimdal-clients), or that of its packages unpacked in the folder HEIMDAL. CACHES may
-# name the built program replay_files, which is proved and built first where it isn't yet.
+# name the built program replay_encodings, which is proved and built first where it isn't yet.
 set -u
 script=cache_readers
 top=$(cd "$(dirname "$0")/.." && pwd)
@@ -23,10 +23,10 @@ libraries=
 if [ -n "$heimdal_folder" ]; then
     libraries=$(dirname "$(find "$heimdal_folder/usr/lib" -name 'libkrb5.so.26' 2>/dev/null | head -n 1)")
 fi
-data=$top/crates/replay_files/data
-program=${CACHES:-$top/crates/replay_files/out/replay_files}
+data=$top/crates/replay_encodings/data
+program=${CACHES:-$top/crates/replay_encodings/out/replay_encodings}
 if [ -z "${CACHES:-}" ] && { [ ! -x "$program" ] || [ -n "$(find "$top/crates" -name out -prune -o -path '*/src/*.rt' -newer "$program" -print | head -n 1)" ]; }; then
-    (cd "$top/crates/replay_files" && rt run -- "$data/mit.cache" </dev/null >/dev/null)
+    (cd "$top/crates/replay_encodings" && rt run -- "$data/mit.cache" </dev/null >/dev/null)
     [ -x "$program" ] || exit 2
 fi
 configuration 127.0.0.1 "" >"$work/krb5.conf"

@@ -8,7 +8,7 @@ SLOW = (
     # Keys of passwords in 32,768 rounds (RFC 8009, section 4): ten seconds each. Its two examples stay, and five_suites.txt has two keys.
     Slow("replay_crypto", "sealing_sha2.txt", r"^key 19 ", 1),
     Slow("replay_crypto", "sealing_sha2.txt", r"^key 20 ", 1),
-    Slow("replay_files", "hints.txt", r"\|suite (19|20) .* key ", 1),
+    Slow("replay_encodings", "hints.txt", r"\|suite (19|20) .* key ", 1),
     Slow("replay_realm", "clients.txt", r"^add_by_password \S+ (19|20) ", 0),
     Slow("replay_realm", "clients.txt", r"^client R \S+ (19|20) ", 0, passage=True),
     Slow("replay_realm", "changed_replies.txt", r"^client R \S+ (19|20) ", 0, passage=True),

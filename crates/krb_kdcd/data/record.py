@@ -1,9 +1,10 @@
 #!/usr/bin/env python3
 """Writes the run that the gate repeats: `args`, `stdin` and `stdout` in the folder above, and `accounts.cdb` and `words` here.
 
-Messages that are no request get the empty reply. Requests and replies are rows of replay_files/data/pkinit_realms.txt: replies to requests by
-password and of the TGS are those of an independent implementation of RFC 4120's rules, and pkinit_realms.py computed the one by certificate.
-The database is made by bench/account_files.py, of what that reads in replay_files/data/certified.cdb.
+Messages that are no request get the empty reply. Requests and replies are rows of replay_encodings/data/pkinit_realms.txt: replies to
+requests by password and of the TGS are those of an independent implementation of RFC 4120's rules, and pkinit_realms.py computed the one
+by certificate.
+The database is made by bench/account_files.py, of what that reads in replay_encodings/data/certified.cdb.
 
 Then the written files are read again and checked, by the RFCs and by Python's standard library alone: keys of passwords, what is sealed, the
 signatures and the agreed key. No program of this repository takes part.
@@ -14,7 +15,7 @@ import functools, hashlib, hmac, os, struct, sys
 
 sys.dont_write_bytecode = True
 HERE = os.path.dirname(os.path.abspath(__file__))
-ROWS = f"{HERE}/../../replay_files/data"
+ROWS = f"{HERE}/../../replay_encodings/data"
 sys.path.insert(0, f"{HERE}/../../../bench")
 import account_files
 from replies import elements, number, within
