@@ -1,5 +1,5 @@
 """Measures admissions by the program that is the first argument, with the ticket of the file of rows that is the second: see
-admissions.sh. It writes lists of calls in the form that crates/replay_services reads. Each call has a request of its own."""
+admissions.sh. It writes lists of calls in the form that crates/replay_crypto reads. Each call has a request of its own."""
 import heapq, hmac, os, struct, subprocess, sys, tempfile
 from cryptography.hazmat.primitives.ciphers import Cipher, algorithms, modes
 
@@ -103,7 +103,7 @@ def measured(skew, step, first, count, jitter):
     marked = (0, first, first + count)
     with tempfile.NamedTemporaryFile("w") as calls:
         write_calls(calls, skew, step, first + count + 1, jitter, marked)
-        program = subprocess.Popen([PROGRAM, calls.name], stdout=subprocess.PIPE, text=True)
+        program = subprocess.Popen([PROGRAM, "sequences", calls.name], stdout=subprocess.PIPE, text=True)
         at = [(program.stdout.readline().split(" kept")[0].split(" ")[-1], *seconds_and_bytes(program.pid)) for _ in marked]
         end = program.communicate()[0]
     if not end.endswith(f" {len(marked)} differ\n"):

@@ -4,12 +4,12 @@ gss-ntlmssp, socat and faketime.
 
 MIT's kinit gets a ticket from the realm of settings.toml, and MIT's gss-client logs in twice, by Kerberos itself and through SPNEGO. Then
 examples/ntlm_first.py logs in through SPNEGO, where Kerberos isn't first. All clocks stand. The acceptor is written here, over the writer
-in crates/replay_services/data, and shares no code with the program. `host.keytab` has the service's key. `stdin` is what the clients sent, and `stdout` what they were given: it ends well only if it verified each of those tokens.
+in crates/replay_crypto/data, and shares no code with the program. `host.keytab` has the service's key. `stdin` is what the clients sent, and `stdout` what they were given: it ends well only if it verified each of those tokens.
 """
 import os, socket, struct, subprocess, sys, tempfile, time
 
 HERE = os.path.dirname(os.path.abspath(__file__))
-sys.path.insert(0, f"{HERE}/../../replay_services/data")
+sys.path.insert(0, f"{HERE}/../../replay_crypto/data")
 from first_tokens import ACCEPT_COMPLETED, ACCEPT_INCOMPLETE, KRB5, REQUEST_MIC, Login, response
 from tokens import ACCEPTOR, SUITES, End
 

@@ -2,7 +2,7 @@
 """Writes what krb_kpasswdd is run on, and what it has to answer: accounts, refused and words of this folder, and ../args, ../stdin, ../stdout.
 
 It shares no code with the program. Requests and replies are those of password_changes.py and password_replies.py in
-crates/replay_services/data, by the same keys. Each run writes the same files.
+crates/replay_crypto/data, by the same keys. Each run writes the same files.
 
 Run it in this folder: python3 record.py
 """
@@ -10,7 +10,7 @@ import struct
 import sys
 
 sys.dont_write_bytecode = True
-sys.path.insert(0, "../../replay_services/data")
+sys.path.insert(0, "../../replay_crypto/data")
 from first_tokens import octet_string, sequence
 from password_changes import AUTH, DENIED, FLAG, HARD, MALFORMED, REALM, SOFT, SUCCESS, VERSION, Request
 from password_frames import CHANGE, frame

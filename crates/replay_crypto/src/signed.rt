@@ -11,10 +11,9 @@ mod trusted;
 mod written;
 
 use lines::SignedLines;
-use std::env;
 use test_support::replay;
 
-/// The files that are replayed where no argument names one.
+/// The recorded files.
 const RECORDED: [&str; 7] = [
     "read.txt",
     "stock_clients.txt",
@@ -25,23 +24,15 @@ const RECORDED: [&str; 7] = [
     "key_files.txt",
 ];
 
-/// Replays the files that the arguments name, or the recorded ones.
+/// Replays the recorded files.
 pub(crate) fn replay_signed(rt: &HostRuntime) -> anyhow::Result<()> {
-    let mut names = env::args(rt)?;
-    let _program = names.next();
-    let Some(first) = names.next() else {
-        return replay_recorded(rt);
-    };
-    replay(rt, &SignedLines, &first)?;
-    for name in names {
-        replay(rt, &SignedLines, &name)?;
+    for file in RECORDED {
+        replay_file(rt, file)?;
     }
     Ok(())
 }
 
-fn replay_recorded(rt: &HostRuntime) -> anyhow::Result<()> {
-    for name in RECORDED {
-        replay(rt, &SignedLines, name)?;
-    }
-    Ok(())
+/// Replays a file.
+pub(crate) fn replay_file(rt: &HostRuntime, file: &str) -> anyhow::Result<()> {
+    replay(rt, &SignedLines, file)
 }

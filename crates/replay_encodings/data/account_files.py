@@ -22,7 +22,7 @@ from cryptography.hazmat.primitives import hashes
 from cryptography.hazmat.primitives.ciphers import Cipher, modes
 
 sys.dont_write_bytecode = True
-sys.path.insert(0, "../../replay_services/data")
+sys.path.insert(0, "../../replay_crypto/data")
 from databases import HEADER, PAIR, Damaged, database, found, number, part, text, word
 from tokens import derive_by_blocks, derive_by_hmac, n_fold
 

@@ -20,7 +20,7 @@ from cryptography.hazmat.primitives.ciphers import Cipher, algorithms, modes
 sys.dont_write_bytecode = True
 HERE = os.path.dirname(os.path.abspath(__file__))
 CRATES = os.path.join(HERE, "..", "..")
-sys.path.append(os.path.join(CRATES, "replay_services", "data"))
+sys.path.append(os.path.join(CRATES, "replay_crypto", "data"))
 import databases
 import forms
 from listings import der, elements, etypes_of, listing

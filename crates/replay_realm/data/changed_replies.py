@@ -11,7 +11,7 @@ Run it in this folder: python3 changed_replies.py
 import sys
 
 sys.dont_write_bytecode = True
-sys.path += ["../../replay_encodings/data", "../../replay_services/data"]
+sys.path += ["../../replay_encodings/data", "../../replay_crypto/data"]
 from hints import element, field, fields_of, inner, number, parts_of, sequence, write_again
 from tokens import SUITES, check_against_the_standards
 
