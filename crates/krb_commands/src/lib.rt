@@ -15,6 +15,8 @@
 //! one. A `Stop` has the text of `stop_text` and the status of `status_of`. No contract says what files, the program's arguments and
 //! standard output hold. `default_realm_in` returns the realm that a text names by `default_realm` in its section `[libdefaults]`, as
 //! `default_realm_in` of `specs/` says. It returns, and its only refusal is of memory.
+//!
+//! [`holder_in`], [`listed_file`], [`linked_path`] and [`folder_of`] have no contract. The crate `test_calls` tests them.
 #![tactic(auto)]
 
 mod arguments;
@@ -32,7 +34,9 @@ mod stop;
 pub use arguments::{Given, arguments_of, given_of, is_word, principal_in};
 pub use files::{NewFile, begin, begin_first, write_file};
 pub use kinds::{ACCOUNTS_LIMIT, FileKind, KEYS_LIMIT, SMALL_LIMIT};
+pub use locks::{holder_in, listed_file};
 pub use output::{print_line, print_version};
+pub use places::{folder_of, linked_path};
 pub use printable::{Printable, PrintableName, printable_of};
 pub use reading::{is_there, keytab_in, octets_of, read_input, unread};
 pub use realms::default_realm_in;

@@ -175,15 +175,15 @@ fn holder_at(rt: &HostRuntime, path: &str) -> io::Result<Option<u32>> {
     )
 }
 
-// A file as the list of locks has it: the two numbers of its device in hexadecimal digits, and its inode.
-fn listed_file(alloc: Global, device: u64, inode: u64) -> Result<String, AllocError> {
+/// A file as Linux lists it with its locks: the two numbers of its device in hexadecimal digits, and its inode.
+pub fn listed_file(alloc: Global, device: u64, inode: u64) -> Result<String, AllocError> {
     let major = ((device >> 8) & 0xfff) | ((device >> 32) & 0xffff_f000);
     let minor = (device & 0xff) | ((device >> 12) & 0xffff_ff00);
     format!(in alloc; "{major:02x}:{minor:02x}:{inode}")
 }
 
-// The process of a line of the list, if the line is of a lock on this file: `1: FLOCK ADVISORY WRITE 4711 fe:00:2310181 0 EOF`.
-fn holder_in(line: &str, file: &str) -> Option<u32> {
+/// The process of a line of that list, if the line is of a lock on this file: `1: FLOCK ADVISORY WRITE 4711 fe:00:2310181 0 EOF`.
+pub fn holder_in(line: &str, file: &str) -> Option<u32> {
     let mut words = line.split_whitespace().skip(1);
     let (Some("FLOCK"), Some(_), Some(_), Some(process), Some(place)) = (
         words.next(),
@@ -198,36 +198,4 @@ fn holder_in(line: &str, file: &str) -> Option<u32> {
         return None;
     }
     process.parse::<u32>().ok()
-}
-
-#[cfg(test)]
-mod tests {
-    use super::*;
-    use std::test::Fail;
-
-    // Lines as Linux 6.1 writes them: locks of flock and of fcntl, and a process that waits.
-    const HELD: &str = "1: FLOCK  ADVISORY  WRITE 4711 fe:00:2310181 0 EOF";
-
-    const OF_RECORDS: &str = "2: POSIX  ADVISORY  WRITE 4712 fe:00:2310181 0 EOF";
-
-    const WAITING: &str = "1: -> FLOCK  ADVISORY  WRITE 4713 fe:00:2310181 0 EOF";
-
-    #[test]
-    fn holders(rt: HostRuntime) {
-        assert!(rt; holder_in(HELD, "fe:00:2310181") == Some(4711));
-        assert!(rt; holder_in(HELD, "fe:01:2310181").is_none());
-        assert!(rt; holder_in(OF_RECORDS, "fe:00:2310181").is_none());
-        assert!(rt; holder_in(WAITING, "fe:00:2310181").is_none());
-        assert!(rt; holder_in("", "fe:00:2310181").is_none());
-    }
-
-    // makedev(3): a minor number of more than eight bits lies around the major one.
-    #[test]
-    fn devices(rt: HostRuntime) -> Result<(), Fail> {
-        let file = listed_file(rt.alloc(), 0xfe00, 2_310_181)?;
-        assert!(rt; file.as_str() == "fe:00:2310181");
-        let file = listed_file(rt.alloc(), 0x0010_0801, 7)?;
-        assert!(rt; file.as_str() == "08:101:7");
-        Ok(())
-    }
 }

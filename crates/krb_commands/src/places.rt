@@ -44,12 +44,12 @@ fn link_at(rt: &HostRuntime, path: &str) -> io::Result<Option<String>> {
         _ => return Ok(None),
     }
     let target = fs::read_link(rt, path)?;
-    let place = joined(rt.alloc(), path, target.as_str())?;
+    let place = linked_path(rt.alloc(), path, target.as_str())?;
     Ok(Some(place))
 }
 
-// The path that a link at a path writes: from the link's folder on, if it doesn't begin with a slash.
-fn joined(alloc: Global, link: &str, target: &str) -> Result<String, AllocError> {
+/// The path to which a link at a path leads: from the link's folder on, if the target doesn't begin with a slash.
+pub fn linked_path(alloc: Global, link: &str, target: &str) -> Result<String, AllocError> {
     match link.rsplit_once('/') {
         Some((folder, _)) if !target.starts_with('/') => { format!(in alloc; "{folder}/{target}") }
         _ => String::from_str(alloc, target),
@@ -65,7 +65,7 @@ fn named(alloc: Global, place: String) -> Result<String, Stop> {
 }
 
 /// The folder of a path.
-pub(crate) fn folder_of(path: &str) -> &str {
+pub fn folder_of(path: &str) -> &str {
     match path.rfind('/') {
         None => ".",
         Some(0) => "/",
@@ -94,31 +94,5 @@ pub(crate) fn unwritten(alloc: Global, path: &str, fault: io::Error) -> Stop {
     match fault.kind() {
         ErrorKind::OutOfMemory => Stop::Memory,
         _ => failed(alloc, format_args!("{path} can't be written: {fault}")),
-    }
-}
-
-#[cfg(test)]
-mod tests {
-    use super::*;
-
-    fn leads_to(alloc: Global, link: &str, target: &str, place: &str) -> bool {
-        match joined(alloc, link, target) {
-            Ok(path) => path.as_str() == place,
-            Err(_) => false,
-        }
-    }
-
-    #[test]
-    fn links(rt: HostRuntime) {
-        assert!(rt; leads_to(rt.alloc(), "a/link", "accounts", "a/accounts"));
-        assert!(rt; leads_to(rt.alloc(), "a/link", "../accounts", "a/../accounts"));
-        assert!(rt; leads_to(rt.alloc(), "a/link", "/accounts", "/accounts"));
-        assert!(rt; leads_to(rt.alloc(), "/link", "accounts", "/accounts"));
-        assert!(rt; leads_to(rt.alloc(), "link", "accounts", "accounts"));
-        assert!(rt;
-            folder_of("/accounts") == "/"
-                && folder_of("accounts") == "."
-                && folder_of("a/b/c") == "a/b"
-        );
     }
 }

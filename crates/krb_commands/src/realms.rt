@@ -79,39 +79,3 @@ fn realm_in<'a>(name: &str, value: &'a str) -> Option<&'a str>
     }
     Some(realm)
 }
-
-#[cfg(test)]
-mod tests {
-    use super::*;
-
-    // A configuration as Debian's krb5-config writes it, with another section and a comment in front.
-    const STOCK: &str =
-        "# default_realm = A\n[logging]\n\tdefault_realm = B\n\n[libdefaults]\n\tdefault_realm = EXAMPLE.COM\n\tkdc_timesync = 1\n";
-
-    fn names(alloc: Global, text: &str, realm: Option<&str>) -> bool {
-        match default_realm_in(alloc, text) {
-            Ok(named) => named == realm,
-            Err(_) => false,
-        }
-    }
-
-    #[test]
-    fn stock(rt: HostRuntime) {
-        assert!(rt; names(rt.alloc(), STOCK, Some("EXAMPLE.COM")));
-        assert!(rt;
-            names(
-                rt.alloc(),
-                "[libdefaults]\r\ndefault_realm=A\r\n",
-                Some("A")
-            )
-        );
-        assert!(rt;
-            names(
-                rt.alloc(),
-                "[libdefaults]\ndefault_realm =\ndefault_realm\n",
-                None
-            )
-        );
-        assert!(rt; names(rt.alloc(), "[realms]\ndefault_realm = A\n", None));
-    }
-}

@@ -1,12 +1,14 @@
 //! Tests of single calls: worked values of encryption, where no line of `replay_crypto` makes the call, and worked keys of X.509.
-//! Streams over whole, slow and failing devices. Worked values of moments, names, accounts and what services remember. `encodings`: worked
-//! values of DER, of its leaf types and of binary layouts.
+//! Streams over whole, slow and failing devices. Worked values of moments, names, accounts, what services remember, and what commands
+//! make of texts. `encodings`: worked values of DER, of its leaf types and of binary layouts.
 #![tactic(auto)]
 
 #[cfg(test)]
 mod accounts;
 #[cfg(test)]
 mod aes_sha2;
+#[cfg(test)]
+mod commands;
 #[cfg(test)]
 mod curves;
 #[cfg(test)]
