@@ -2,13 +2,15 @@
 
 use crate::arguments::{expected, name_of, options_of};
 use crate::secrets::{KeyInput, SaltedKey, input_of, key_of_password, key_without_password};
-use crate::texts::{account_among, finish_text, lines_of, realm_of};
+use crate::texts::finish_text;
 use crate::warnings::{RealmKey, Stream, is_service, warn_of_account, warn_of_realm};
 use krb_account_texts::{
     AccountLine, EditRefusal, Line, RealmLine, add, can_be_typed, change_key, disable, enable,
     place_of, principal_name, realm_among, remove,
 };
-use krb_commands::{FileKind, Stop, begin, begin_first, refused};
+use krb_commands::{
+    FileKind, Stop, account_among, begin, begin_first, lines_of, realm_of, refused,
+};
 use krb_crypto::{CipherSuite, Key};
 use krb_messages::data_types::PrincipalName;
 use krb_messages::krbtgt_of;

@@ -1,9 +1,9 @@
 //! The commands `certify` and `uncertify`: what logins by certificate are answered by.
 
 use crate::arguments::expected;
-use crate::texts::{finish_text, lines_of, unnamed_realm};
+use crate::texts::finish_text;
 use krb_account_texts::{Line, certify as put_certified};
-use krb_commands::{FileKind, Stop, begin, octets_of, refused};
+use krb_commands::{FileKind, Stop, begin, lines_of, octets_of, refused, unnamed_realm};
 use krb_realm_files::{PKINIT_ROOM, PkinitFault, means_in};
 use picky_asn1::wrapper::OctetStringAsn1;
 use std::alloc::Global;

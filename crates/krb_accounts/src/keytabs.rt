@@ -2,9 +2,9 @@
 
 use crate::accounts::refusal_of;
 use crate::arguments::{expected, name_of};
-use crate::texts::{account_among, finish, lines_of, realm_of};
+use crate::texts::finish;
 use krb_account_texts::{AccountLine, EditRefusal, Line};
-use krb_commands::{FileKind, Stop, begin, keytab_in, refused};
+use krb_commands::{FileKind, Stop, account_among, begin, keytab_in, lines_of, realm_of, refused};
 use krb_constants::types::NT_PRINCIPAL;
 use krb_file_formats::{Keytab, KeytabRecord, KeytabWriteFault};
 use krb_messages::is_same_name;

@@ -2,9 +2,8 @@
 
 use crate::accounts::refusal_of;
 use crate::arguments::{expected, name_of};
-use crate::texts::{account_among, lines_of};
 use krb_account_texts::{AccountLine, EditRefusal, Line, Pattern, RealmLine, salt_text};
-use krb_commands::{Stop, failed, printable_of};
+use krb_commands::{Stop, account_among, failed, lines_of, printable_of};
 use krb_messages::data_types::PrincipalName;
 use krb_realm_accounts::Account;
 use krb_settings::suite_name;

@@ -1,14 +1,13 @@
 //! The records of a text of accounts. Each line is read, and its record made, before the next: a text may have many.
 
 use crate::accounts::service_name;
-use crate::texts::{stop_of, text_in};
 use crate::warner::Warner;
 use crate::warnings::is_service;
 use cdb::{Record, WriteFault};
 use krb_account_texts::{
     AccountLine, Line, LineFault, RealmLine, TextFault, check_next, read_line,
 };
-use krb_commands::{FileKind, Stop, octets_of, refused};
+use krb_commands::{FileKind, Stop, octets_of, refused, stop_of, text_in};
 use krb_realm_files::{PKINIT_ROOM, RealmParameters, record_of_account};
 use picky_asn1::wrapper::GeneralStringAsn1;
 use std::alloc::Global;

@@ -2,9 +2,8 @@
 
 use crate::PROGRAM;
 use crate::secrets::octets_of;
-use crate::texts::account_among;
 use krb_account_texts::{Line, RealmLine, is_krbtgt};
-use krb_commands::{Stop, print_line, printable_of};
+use krb_commands::{Stop, account_among, print_line, printable_of};
 use krb_crypto::CipherSuite;
 use krb_messages::data_types::PrincipalName;
 use krb_messages::krbtgt_of;

@@ -1,10 +1,10 @@
 //! Changing the text and its database.
 
+use crate::admins::admins_of;
 use crate::database::database_of;
 use crate::desk::Desk;
-use crate::texts::{admins_of, lines_of, whole_text};
 use kpasswd_messages::ResultCode;
-use krb_commands::{FileKind, NewFile, Stop, begin};
+use krb_commands::{FileKind, NewFile, Stop, begin, lines_of, whole_text};
 use krb_password_changes::{Admitted, ChangeRefusal, change_password};
 
 /// The octets of the text and of its database after a change.

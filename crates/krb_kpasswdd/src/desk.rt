@@ -1,9 +1,9 @@
 //! What serves the messages.
 
+use crate::admins::admins_of;
 use crate::arguments::Options;
-use crate::texts::{account_among, admins_of, lines_of, realm_of};
 use krb_account_texts::{Line, RealmLine, principal_name};
-use krb_commands::{Stop, moment_or_now, refused, unread};
+use krb_commands::{Stop, account_among, lines_of, moment_or_now, realm_of, refused, unread};
 use krb_constants::types::NT_PRINCIPAL;
 use krb_file_formats::{Keytab, KeytabRecord};
 use krb_messages::data_types::{HostAddress, PrincipalName};
@@ -100,7 +100,7 @@ fn service_of(
     name: &PrincipalName,
 ) -> Result<KeytabService, Stop> {
     let alloc = rt.alloc();
-    let Some(account) = account_among(lines, name.name_string.0.as_slice()) else {
+    let Some(own_line) = account_among(lines, name.name_string.0.as_slice()) else {
         return Err(refused(
             alloc,
             format_args!(
@@ -108,7 +108,7 @@ fn service_of(
             ),
         ));
     };
-    let keytab = keytab_of(alloc, realm, own, account)?;
+    let keytab = keytab_of(alloc, realm, own, &own_line.account)?;
     let skew = realm.settings.skew();
     match KeytabService::new(alloc, realm.name.as_bytes(), own, &keytab, skew) {
         Ok(service) => Ok(service),

@@ -12,12 +12,12 @@
 //! It is safe, returns, and meets what its calls require. No contract says what files, standard input and standard output hold.
 #![tactic(auto)]
 
+mod admins;
 mod arguments;
 mod change;
 mod database;
 mod desk;
 mod serving;
-mod texts;
 
 use arguments::options_of;
 use desk::desk_of;
