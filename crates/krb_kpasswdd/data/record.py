@@ -25,7 +25,7 @@ TEXTS = {
     HARD: "The password was not changed: the server can't do it now.",
     AUTH: "The request is not authenticated.",
     SOFT: "The password is too short, or a word that is refused.",
-    DENIED: "Only an administrator sets the password of another account.",
+    DENIED: "The client may not set the password of this account.",
     VERSION: "The version of the request is not known.",
     FLAG: "The ticket has to be got by the password.",
 }
@@ -61,6 +61,7 @@ def messages():
     yield encrypted(Request(flags=0), FLAG)
     yield encrypted(Request(target=("other",), target_realm=REALM), DENIED)
     yield encrypted(Request(client=("root", "admin"), target=("other",), target_realm=REALM), SUCCESS)
+    yield encrypted(Request(client=("root", "admin"), target=("krbtgt", REALM), target_realm=REALM), DENIED)
     yield encrypted(Request(client=("spent",)), HARD)
     yield encrypted(Request(client=("nobody",)), HARD)
     yield encrypted(Request(own_number=7), AUTH)

@@ -4,8 +4,9 @@ use crate::admins::admins_of;
 use crate::database::database_of;
 use crate::desk::Desk;
 use kpasswd_messages::ResultCode;
+use krb_account_texts::is_krbtgt;
 use krb_commands::{FileKind, NewFile, Stop, begin, lines_of, whole_text};
-use krb_password_changes::{Admitted, ChangeRefusal, change_password};
+use krb_password_changes::{Admitted, ChangeRefusal, Granted, change_password};
 
 /// The octets of the text and of its database after a change.
 #[derive(Drop)]
@@ -56,7 +57,10 @@ fn files_after(
         admitted.krb_priv,
     );
     match outcome {
-        Ok(_granted) => {
+        Ok(granted) => {
+            if is_kept(desk, &granted) {
+                return Ok(Err(ResultCode::AccessDenied));
+            }
             let text = whole_text(rt, &lines)?;
             let database = database_of(alloc, desk.text, lines)?;
             Ok(Ok(Changed { text, database }))
@@ -64,6 +68,14 @@ fn files_after(
         Err(ChangeRefusal::Refused(code)) => Ok(Err(code)),
         Err(ChangeRefusal::Memory) => Err(Stop::Memory),
     }
+}
+
+// Whether the account is that of the ticket-granting service, whose key is never of a password.
+fn is_kept(desk: &Desk<'_>, granted: &Granted) -> bool {
+    is_krbtgt(
+        desk.rules.realm.as_bytes(),
+        granted.name.name_string.0.as_slice(),
+    )
 }
 
 // Puts the text into its place, and then the database.

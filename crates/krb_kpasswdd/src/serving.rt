@@ -165,7 +165,7 @@ fn text_of(code: ResultCode) -> &'static str {
         ResultCode::HardError => "The password was not changed: the server can't do it now.",
         ResultCode::AuthError => "The request is not authenticated.",
         ResultCode::SoftError => "The password is too short, or a word that is refused.",
-        ResultCode::AccessDenied => "Only an administrator sets the password of another account.",
+        ResultCode::AccessDenied => "The client may not set the password of this account.",
         ResultCode::BadVersion => "The version of the request is not known.",
         ResultCode::InitialFlagNeeded => "The ticket has to be got by the password.",
         ResultCode::Other => "",
