@@ -12,7 +12,7 @@ CRATES := $(sort $(notdir $(patsubst %/src,%,$(wildcard crates/*/src))))
 REALM := out/realm
 
 .DEFAULT_GOAL := help
-.PHONY: help try messages certificate test listener imports programs check gate faults settings build install uninstall run clients move logins pkinit gss initiator services bench plant fmt docs definitions budget crate-named kit-there port-free
+.PHONY: help try messages certificate test listener imports programs check gate faults settings build install uninstall run clients passwords move logins pkinit gss initiator services bench plant fmt docs definitions budget crate-named kit-there port-free
 
 help: ## list the targets
 	@sed -n 's/^\([a-z]*\):[^#]*## /\1\t/p' Makefile | expand -t 14
@@ -71,6 +71,9 @@ run: port-free $(REALM)/accounts ## serve a realm to stock clients on 127.0.0.1 
 
 clients: ## log in to the realm with stock clients of MIT and Heimdal, step by step
 	examples/real_clients.sh
+
+passwords: ## change passwords at krb_kpasswdd with stock kpasswd of MIT and Heimdal, step by step
+	examples/password_changes.sh
 
 move: ## move a realm from MIT's krb5kdc to krb_kdcd, and log in there with stock clients, step by step
 	examples/move_realm.sh
