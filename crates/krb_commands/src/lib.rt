@@ -7,7 +7,8 @@
 //! [`begin`] makes a new file beside the one whose place it is to take, under a name of its own, and `NewFile::finish` puts it there once
 //! it is on disk. So the path has the old file or the new one at each moment. The old file is locked meanwhile: another run waits for up to
 //! ten seconds. It is replaced only where it is of its [`FileKind`] or empty, and none of the files that the command reads. [`octets_of`]
-//! reads a file up to the limit of its kind, and [`lines_of`] a text of accounts, which [`whole_text`] writes. [`Printable`] and [`PrintableName`] show what comes from files and peers.
+//! reads a file up to the limit of its kind, and [`lines_of`] a text of accounts, which [`whole_text`] writes. [`Printable`] and
+//! [`PrintableName`] show what comes from files and peers.
 //!
 //! Each call is safe and returns. `limit` and `has_front` of `FileKind` are `limit_of` and `is_of_kind`. `Printable` and `PrintableName`
 //! print `printable_text` and `printable_name`. `given_of` takes arguments apart, or refuses them in a text, both as `parts_of` says.

@@ -15,8 +15,9 @@ struct Changed {
     database: Vec<u8>,
 }
 
-/// Changes the text and its database as an admitted request asks for, and returns the result code. No other run writes the text meanwhile. What
-/// is refused changes neither. The text is replaced first: where that of the database fails, `krb_accounts make` makes it of the text.
+/// Changes the text and its database as an admitted request asks for, and returns the result code. No other run writes the text meanwhile.
+/// What is refused changes neither. The text is replaced first: where that of the database fails, `krb_accounts make` makes it of the
+/// text.
 pub(crate) fn change(
     rt: &HostRuntime,
     desk: &mut Desk<'_>,

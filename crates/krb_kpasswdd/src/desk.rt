@@ -61,8 +61,8 @@ pub(crate) fn desk_of<'a>(rt: &HostRuntime, options: &Options<'a>) -> Result<Des
     })
 }
 
-// Hands the service a moment that is the clock skew after the start. Then it admits no request of a time before the start: a run before this
-// one may have admitted that.
+// Hands the service a moment that is the clock skew after the start. Then it admits no request of a time before the start: a run before
+// this one may have admitted that.
 fn start(alloc: Global, service: &mut KeytabService, moment: Moment) {
     let ahead = moment.micros().saturating_add(service.clock_skew());
     if let Some(ahead) = Moment::new(ahead) {

@@ -6,8 +6,8 @@
 //! `krbtgt/REALM`. What is granted is done as `krb_accounts key` and `krb_accounts make` do it. The text is locked. It and its database are
 //! replaced whole, the text first. The reply has the result code. It tells a success only where both files were replaced.
 //!
-//! A request is granted once in one run. So one process serves, and a listener has one worker for it. A run admits no request of a time before
-//! its start. So what another run has granted isn't granted again, unless the client's clock was ahead.
+//! A request is granted once in one run. So one process serves, and a listener has one worker for it. A run admits no request of a time
+//! before its start. So what another run has granted isn't granted again, unless the client's clock was ahead.
 //!
 //! It is safe, returns, and meets what its calls require. No contract says what files, standard input and standard output hold.
 #![tactic(auto)]
