@@ -1,5 +1,5 @@
 -- What is written of a line is read as that line.
-use Rattle.std.proofs.Common.{◌≡◌, inl, inr, cond, ℕ, zero, suc, ◌/◌, ◌<◌, ◌≤◌, ◌^◌, ◌==◌, ◌&&◌, nat_eq, nat_le, not, Bool, true, false, List, [], ◌∷◌, ◌++◌, length, slice_index, codes, Option, None, Some, Ok, IsTrue, refl, ap, sym, subst, ◌∙◌, arith}
+use Rattle.std.proofs.Common.{◌≡◌, inl, inr, cond, ℕ, zero, suc, ◌/◌, ◌<◌, ◌≤◌, ◌^◌, ◌==◌, ◌&&◌, nat_eq, nat_le, not, Bool, true, false, List, [], ◌∷◌, ◌++◌, length, slice_index, codes, Option, None, Some, is_some, Result, Ok, IsTrue, refl, ap, sym, subst, ◌∙◌, arith}
 use Rattle.std.specs.List.{list_all}
 use Rattle.std.specs.Option.{option_map}
 use Rattle.std.proofs.lemmas.List.{append-nil}
@@ -16,16 +16,21 @@ use Rattle.krb_messages.proofs.PrintedNames.{name-read}
 use Rattle.krb_realm_accounts.specs.Account.{AccountRecord}
 use Rattle.krb_realm_accounts.specs.Names.{AreComponents, is_realm_name}
 use Rattle.krb_realm_accounts.specs.Settings.{SettingsRecord}
+use Rattle.krb_realm_accounts.specs.declared.policy.Policy.{Policy}
 use Rattle.krb_realm_accounts.specs.declared.policy.TheConstants.{NO_POLICY}
 use Rattle.krb_crypto.specs.Suites.{cipher_key_size}
 use Rattle.krb_crypto.specs.declared.suite.CipherSuite.{CipherSuite}
 use Rattle.krb_crypto.specs.declared.suite.CipherSuite.TheVariants.{Aes128CtsHmacSha196, Aes256CtsHmacSha196, Des3CbcSha1Kd, Aes128CtsHmacSha256128, Aes256CtsHmacSha384192}
 use Rattle.krb_settings.specs.Fields.{suite_name}
-use Rattle.krb_account_texts.specs.Lines.{WrittenLine, comment, realm, account, account_fields, disabled_mark, guarded, line_text, further_text, realm_text, salt_text}
-use Rattle.krb_account_texts.specs.Reading.{account_in, disabled_of, fields, is_disabled, is_printed, judged_kvno, judged_name, key_in, kvno_in, line_in, line_of, name_in, pkinit_in, realm_in, realm_name_in, salt_in, seconds_in, settings_of, suite_in, limiting}
+use Rattle.krb_account_texts.specs.Lines.{WrittenLine, comment, realm, account, account_fields, disabled_mark, guarded, line_text, further_by, realm_text, salt_text, words_text}
+use Rattle.krb_account_texts.specs.Reading.{account_in, disabled_of, fields, is_disabled, is_printed, judged_kvno, judged_name, key_in, kvno_in, line_in, line_of, name_in, no_words, pkinit_in, realm_by, realm_in, realm_name_in, salt_in, seconds_in, settings_of, suite_in}
+use Rattle.krb_account_texts.specs.Steps.{◌>>=◌}
 use Rattle.krb_account_texts.specs.Writable.{ArePkinitBytes, IsAccount, IsComment, IsRealm, IsSalt, IsWritable}
+use Rattle.krb_account_texts.specs.declared.fault.LineFault.{LineFault}
+use Rattle.krb_account_texts.specs.declared.words.Words.{Words}
 use Rattle.krb_account_texts.proofs.Numbers.{decimal-read}
 use Rattle.krb_account_texts.proofs.Plain.{all-both, all-cons, is_all_plain, is_plain, no_feed, no_tab, plain-decimal, plain-hex, plain-name, plain-suite, split-last, split-part}
+use Rattle.krb_account_texts.proofs.Worded.{further-more, no-words, plain-words, says, words-read}
 
 -- names
 ascii-realm : (name : Bytes) → IsTrue (is_realm_name name) → IsTrue (is_ascii name)
@@ -228,11 +233,9 @@ plain-lifetime : (name : Bytes) (settings : SettingsRecord) (pkinit : Option Byt
 plain-lifetime name settings pkinit is = let lifetime_is = is.settings_are.1.1 in plain-decimal settings.lifetime (omega arith)
 
 -- the further fields of the realm's line, and the line that they have
-abbrev further_fields : Bool → Option Bytes → List (List ℕ)
-further_fields false None = []
-further_fields true None = codes "limits-des3" ∷ codes "-" ∷ []
-further_fields false (Some octets) = codes "pkinit" ∷ encode_lower octets ∷ []
-further_fields true (Some octets) = codes "limits-des3,pkinit" ∷ encode_lower octets ∷ []
+abbrev further_fields : List ℕ → List ℕ → List (List ℕ)
+further_fields [] octets = []
+further_fields (c ∷ words) octets = (c ∷ words) ∷ octets ∷ []
 
 -- two plain fields after a plain one
 two-parts : (first words last : List ℕ) → is_all_plain first ≡ true → is_all_plain words ≡ true → is_all_plain last ≡ true
@@ -241,29 +244,38 @@ two-parts first words last plain_first plain_words plain_last =
     tab-part first (words ++ 9 ∷ last) plain_first
     ∙ ap (λ more. first ∷ more) (tab-part words last plain_words ∙ ap (λ more. words ∷ more) (tab-last last plain_last))
 
-further-parts : (lifetime : List ℕ) → is_all_plain lifetime ≡ true → (limits : Bool) (pkinit : Option Bytes)
-    → fields (lifetime ++ further_text limits pkinit) ≡ lifetime ∷ further_fields limits pkinit
-further-parts lifetime plain false None = rw append-nil (tab-last lifetime plain)
-further-parts lifetime plain true None = two-parts lifetime (codes "limits-des3") (codes "-") plain refl refl
-further-parts lifetime plain false (Some octets) = two-parts lifetime (codes "pkinit") (encode_lower octets) plain refl (plain-hex octets)
-further-parts lifetime plain true (Some octets) = two-parts lifetime (codes "limits-des3,pkinit") (encode_lower octets) plain refl (plain-hex octets)
+further-parts : (lifetime words octets : List ℕ) → is_all_plain lifetime ≡ true → is_all_plain words ≡ true → is_all_plain octets ≡ true
+    → fields (lifetime ++ further_by words octets) ≡ lifetime ∷ further_fields words octets
+further-parts lifetime [] octets plain_lifetime plain_words plain_octets = rw append-nil (tab-last lifetime plain_lifetime)
+further-parts lifetime (c ∷ words) octets plain_lifetime plain_words plain_octets =
+    ap (λ (more : List ℕ). fields (lifetime ++ more)) (further-more c words octets) ∙ two-parts lifetime (c ∷ words) octets plain_lifetime plain_words plain_octets
 
-further-line : (name skew lifetime : List ℕ) (limits : Bool) (pkinit : Option Bytes)
-    → line_of (codes "realm" ∷ name ∷ skew ∷ lifetime ∷ further_fields limits pkinit) ≡ realm_in name skew lifetime (limiting limits) (option_map encode_lower pkinit)
-further-line name skew lifetime false None = refl
-further-line name skew lifetime true None = refl
-further-line name skew lifetime false (Some octets) = refl
-further-line name skew lifetime true (Some octets) = refl
+none-line : (name skew lifetime : List ℕ) (policy : Policy) (pkinit : Option Bytes) → no_words ≡ says policy (is_some pkinit)
+    → line_of (codes "realm" ∷ name ∷ skew ∷ lifetime ∷ []) ≡ realm_in name skew lifetime policy (option_map encode_lower pkinit)
+none-line name skew lifetime policy None same = ap (λ (words : Words). realm_in name skew lifetime words.policy None) same
+none-line name skew lifetime policy (Some octets) same = let off : false ≡ true = ap (λ (words : Words). words.is_certified) same in absurd (cc (off))
+
+pkinit-line : (name skew lifetime : List ℕ) (policy : Policy) (pkinit : Option Bytes)
+    → realm_by name skew lifetime (salt_text pkinit) (says policy (is_some pkinit)) ≡ realm_in name skew lifetime policy (option_map encode_lower pkinit)
+pkinit-line name skew lifetime policy None = refl
+pkinit-line name skew lifetime policy (Some octets) = refl
+
+further-line : (name skew lifetime : List ℕ) (policy : Policy) (pkinit : Option Bytes) → policy.renewable_life ≤ 31536000 → (words : List ℕ) → words_text policy (is_some pkinit) ≡ words
+    → line_of (codes "realm" ∷ name ∷ skew ∷ lifetime ∷ further_fields words (salt_text pkinit)) ≡ realm_in name skew lifetime policy (option_map encode_lower pkinit)
+further-line name skew lifetime policy pkinit few [] is = none-line name skew lifetime policy pkinit (no-words policy (is_some pkinit) few is)
+further-line name skew lifetime policy pkinit few (c ∷ words) is =
+    ap (λ (own : Result Words LineFault). own >>= realm_by name skew lifetime (salt_text pkinit)) (words-read policy (is_some pkinit) c words few is)
+    ∙ pkinit-line name skew lifetime policy pkinit
 
 realm-line : (name : Bytes) (settings : SettingsRecord) (pkinit : Option Bytes) → IsRealm name settings pkinit → line_in (realm_text name settings pkinit) ≡ Ok (realm name settings pkinit)
 unfolding line_in
 realm-line name settings pkinit is =
-    let limits : Bool = settings.policy.limits_des3 in
     let lifetime : List ℕ = decimal settings.lifetime in
-    let last = further-parts lifetime (plain-lifetime name settings pkinit is) limits pkinit in
-    ap line_of (realm-parts name settings pkinit is (further_text limits pkinit) (further_fields limits pkinit) last)
-    ∙ further-line name (decimal settings.skew) lifetime limits pkinit
-    ∙ ap (λ policy. realm_in name (decimal settings.skew) lifetime policy (option_map encode_lower pkinit)) (sym is.policy_is) ∙ realm-again name settings pkinit is
+    let words : List ℕ = words_text settings.policy (is_some pkinit) in
+    let octets : List ℕ = salt_text pkinit in
+    let last = further-parts lifetime words octets (plain-lifetime name settings pkinit is) (plain-words settings.policy (is_some pkinit) is.life_is) (plain-salt pkinit) in
+    ap line_of (realm-parts name settings pkinit is (further_by words octets) (further_fields words octets) last)
+    ∙ further-line name (decimal settings.skew) lifetime settings.policy pkinit is.life_is words refl ∙ realm-again name settings pkinit is
 
 comment-line : (text : Bytes) → IsComment text → line_in text ≡ Ok (comment text)
 unfolding line_in
@@ -302,18 +314,19 @@ two-fed : (first words last : List ℕ) → is_all_plain first ≡ true → is_a
     → list_all (λ octet. not (octet == 10)) (first ++ 9 ∷ (words ++ 9 ∷ last)) ≡ true
 two-fed first words last plain_first plain_words plain_last = fed-part first (words ++ 9 ∷ last) plain_first (fed-part words last plain_words (fed-plain last plain_last))
 
-further-fed : (lifetime : List ℕ) → is_all_plain lifetime ≡ true → (limits : Bool) (pkinit : Option Bytes)
-    → list_all (λ octet. not (octet == 10)) (lifetime ++ further_text limits pkinit) ≡ true
-further-fed lifetime plain false None = rw append-nil (fed-plain lifetime plain)
-further-fed lifetime plain true None = two-fed lifetime (codes "limits-des3") (codes "-") plain refl refl
-further-fed lifetime plain false (Some octets) = two-fed lifetime (codes "pkinit") (encode_lower octets) plain refl (plain-hex octets)
-further-fed lifetime plain true (Some octets) = two-fed lifetime (codes "limits-des3,pkinit") (encode_lower octets) plain refl (plain-hex octets)
+further-fed : (lifetime words octets : List ℕ) → is_all_plain lifetime ≡ true → is_all_plain words ≡ true → is_all_plain octets ≡ true
+    → list_all (λ octet. not (octet == 10)) (lifetime ++ further_by words octets) ≡ true
+further-fed lifetime [] octets plain_lifetime plain_words plain_octets = rw append-nil (fed-plain lifetime plain_lifetime)
+further-fed lifetime (c ∷ words) octets plain_lifetime plain_words plain_octets =
+    ap (λ (more : List ℕ). list_all (λ octet. not (octet == 10)) (lifetime ++ more)) (further-more c words octets)
+    ∙ two-fed lifetime (c ∷ words) octets plain_lifetime plain_words plain_octets
 
 realm-fed : (name : Bytes) (settings : SettingsRecord) (pkinit : Option Bytes) → IsRealm name settings pkinit → list_all (λ octet. not (octet == 10)) (realm_text name settings pkinit) ≡ true
 realm-fed name settings pkinit is =
-    let limits : Bool = settings.policy.limits_des3 in
-    realm-front name settings pkinit is (further_text limits pkinit)
-    (further-fed (decimal settings.lifetime) (plain-lifetime name settings pkinit is) limits pkinit)
+    let words : List ℕ = words_text settings.policy (is_some pkinit) in
+    let octets : List ℕ = salt_text pkinit in
+    realm-front name settings pkinit is (further_by words octets)
+    (further-fed (decimal settings.lifetime) words octets (plain-lifetime name settings pkinit is) (plain-words settings.policy (is_some pkinit) is.life_is) (plain-salt pkinit))
 
 fields-fed : (name : List Bytes) (own : AccountRecord) → IsAccount name own → list_all (λ octet. not (octet == 10)) (account_fields name own) ≡ true
 fields-fed name own is =

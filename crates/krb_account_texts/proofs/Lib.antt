@@ -8,3 +8,5 @@ pub mod Ended
 pub mod Orders
 pub mod Rows
 pub mod Read
+mod Stripped
+mod Worded

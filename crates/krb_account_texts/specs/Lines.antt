@@ -1,6 +1,6 @@
 -- The lines of a text of accounts, and what each is written as. A tab (9) is between each two fields, and a line feed (10) after each
 -- line.
-use Rattle.std.specs.Prelude.{ℕ, ◌==◌, Bool, true, false, if◌then◌else◌, List, [], ◌∷◌, ◌++◌, slice_index, codes, string_bytes, Option, None, Some}
+use Rattle.std.specs.Prelude.{ℕ, ◌==◌, nat_lt, Bool, true, false, if◌then◌else◌, List, [], ◌∷◌, ◌++◌, length, slice_index, codes, string_bytes, Option, None, Some, is_some}
 use Rattle.std.specs.List.{flat_map}
 use Rattle.std.specs.Fmt.{decimal}
 use Rattle.hex.specs.Hex.{encode_lower}
@@ -8,6 +8,7 @@ use Rattle.picky_asn1.specs.Bytes.{Bytes}
 use Rattle.krb_messages.specs.NameText.{name_text}
 use Rattle.krb_realm_accounts.specs.Account.{AccountRecord}
 use Rattle.krb_realm_accounts.specs.Settings.{SettingsRecord}
+use Rattle.krb_realm_accounts.specs.declared.policy.Policy.{Policy}
 use Rattle.krb_settings.specs.Fields.{suite_name}
 use Rattle.krb_account_texts.specs.declared.line.Line.{Line}
 use Rattle.krb_account_texts.specs.declared.line.Line.TheVariants as line
@@ -30,20 +31,34 @@ abbrev pub salt_text : Option Bytes → List ℕ
 salt_text None = codes "-"
 salt_text (Some salt) = encode_lower salt
 
--- What follows in the realm's line: nothing, or two fields. The first one has the words `limits-des3`, where the policy limits session keys of
--- triple DES, and `pkinit`, where logins by certificate are answered. The second one has what these are answered by in hexadecimal digits, or
--- `-`.
-abbrev pub further_text : Bool → Option Bytes → List ℕ
-further_text false None = []
-further_text true None = codes "\tlimits-des3\t-"
-further_text false (Some octets) = codes "\tpkinit\t" ++ encode_lower octets
-further_text true (Some octets) = codes "\tlimits-des3,pkinit\t" ++ encode_lower octets
+-- A word before a text of words, with a comma (44) between them, if the word is there.
+abbrev pub before : Bool → List ℕ → List ℕ → List ℕ
+before is word text = if is then (if length text == 0 then word else word ++ 44 ∷ text) else text
+
+-- The word of a greatest renewable life, in seconds.
+abbrev pub renewable_word : ℕ → List ℕ
+renewable_word life = codes "renewable=" ++ decimal life
+
+-- The words of policy and of logins by certificate, each where it is set, with a comma between each two.
+unfoldable pub words_text : Policy → Bool → List ℕ
+words_text policy is_certified =
+    before policy.limits_des3 (codes "limits-des3") (before policy.forwardable (codes "forwardable") (before policy.proxiable (codes "proxiable")
+    (before (nat_lt 0 policy.renewable_life) (renewable_word policy.renewable_life) (before is_certified (codes "pkinit") []))))
+
+-- What follows in the realm's line, of words and octets: nothing where there is no word, and else both.
+abbrev pub further_by : List ℕ → List ℕ → List ℕ
+further_by words octets = if length words == 0 then [] else codes "\t" ++ (words ++ (codes "\t" ++ octets))
+
+-- What follows in the realm's line: nothing, or two fields. The first one has the words. The second one has what logins by certificate are
+-- answered by in hexadecimal digits, or `-`.
+abbrev pub further_text : Policy → Option Bytes → List ℕ
+further_text policy pkinit = further_by (words_text policy (is_some pkinit)) (salt_text pkinit)
 
 -- The realm's line: the word `realm`, the name, the clock skew and the greatest lifetime in seconds, and what follows of policy and logins by
 -- certificate.
 abbrev pub realm_text : Bytes → SettingsRecord → Option Bytes → List ℕ
 realm_text name settings pkinit =
-    codes "realm" ++ (codes "\t" ++ (name ++ (codes "\t" ++ (decimal settings.skew ++ (codes "\t" ++ (decimal settings.lifetime ++ further_text settings.policy.limits_des3 pkinit))))))
+    codes "realm" ++ (codes "\t" ++ (name ++ (codes "\t" ++ (decimal settings.skew ++ (codes "\t" ++ (decimal settings.lifetime ++ further_text settings.policy pkinit))))))
 
 -- The text of a name where a line begins: a backslash (92) precedes a `#` (35), with which a comment would begin.
 abbrev pub guarded : List ℕ → List ℕ

@@ -1,5 +1,5 @@
 -- How a text of accounts is read.
-use Rattle.std.specs.Prelude.{ℕ, ◌+◌, ◌-◌, ◌*◌, ◌==◌, ◌&&◌, ◌||◌, nat_eq, nat_lt, nat_le, Bool, true, false, if◌then◌else◌, List, [], ◌∷◌, length, take, slice_index, slice_index_or, codes, drop, Option, None, Some, option_and_then, ok_or, Result, Ok, Err}
+use Rattle.std.specs.Prelude.{ℕ, ◌+◌, ◌-◌, ◌*◌, ◌==◌, ◌&&◌, ◌||◌, nat_eq, nat_lt, nat_le, not, Bool, true, false, if◌then◌else◌, List, [], ◌∷◌, length, take, slice_index, slice_index_or, codes, drop, Option, None, Some, option_and_then, ok_or, Result, Ok, Err}
 use Rattle.std.specs.List.{find, list_all, slice_split, starts_with}
 use Rattle.std.specs.Cmp.Lexicographic.{pointwise}
 use Rattle.hex.specs.Hex.{decode_of}
@@ -21,6 +21,7 @@ use Rattle.krb_account_texts.specs.declared.fault.LineFault.{LineFault}
 use Rattle.krb_account_texts.specs.declared.fault.LineFault.TheVariants as fault
 use Rattle.krb_account_texts.specs.declared.fault.TextFault.{TextFault}
 use Rattle.krb_account_texts.specs.declared.fault.TextFault.TheVariants as text_fault
+use Rattle.krb_account_texts.specs.declared.words.Words.{Words}
 
 -- The parts between tabs.
 abbrev pub fields : List ℕ → List (List ℕ)
@@ -112,9 +113,86 @@ settings_of skew lifetime =
     if nat_le skew SKEW_LIMIT && (nat_le 1 lifetime && nat_le lifetime LIFETIME_LIMIT) then Ok (record { skew = skew; lifetime = lifetime; policy = NO_POLICY })
     else Err fault.Seconds
 
--- The policy that limits session keys of triple DES or doesn't, and nothing else: the one that a text has a word for.
-abbrev pub limiting : Bool → Policy
-limiting limits = record NO_POLICY { limits_des3 = limits }
+-- No word.
+abbrev pub no_words : Words
+no_words = record { policy = NO_POLICY; is_certified = false }
+
+-- A word may follow where neither it nor a later one is there. The words are `limits-des3`, `forwardable`, `proxiable`, `renewable=` with
+-- seconds, and `pkinit`, in this order.
+abbrev pub may_certify : Words → Bool
+may_certify words = not words.is_certified
+
+abbrev pub may_renew : Words → Bool
+may_renew words = (words.policy.renewable_life == 0) && may_certify words
+
+abbrev pub may_proxy : Words → Bool
+may_proxy words = not words.policy.proxiable && may_renew words
+
+abbrev pub may_forward : Words → Bool
+may_forward words = not words.policy.forwardable && may_proxy words
+
+abbrev pub may_limit : Words → Bool
+may_limit words = not words.policy.limits_des3 && may_forward words
+
+-- The words with one more.
+abbrev pub limited : Words → Words
+limited words = record { policy = record words.policy { limits_des3 = true }; is_certified = words.is_certified }
+
+abbrev pub forwarded : Words → Words
+forwarded words = record { policy = record words.policy { forwardable = true }; is_certified = words.is_certified }
+
+abbrev pub proxied : Words → Words
+proxied words = record { policy = record words.policy { proxiable = true }; is_certified = words.is_certified }
+
+abbrev pub renewed : ℕ → Words → Words
+renewed life words = record { policy = record words.policy { renewable_life = life }; is_certified = words.is_certified }
+
+abbrev pub certified : Words → Words
+certified words = record { policy = words.policy; is_certified = true }
+
+-- The words, if the last one may follow those before it.
+abbrev pub if_may : Bool → Words → Result Words LineFault
+if_may may words = if may then Ok words else Err fault.Words
+
+-- A greatest renewable life is a second at least, and a year of 365 days at most.
+abbrev pub judged_life : Option ℕ → Result ℕ LineFault
+judged_life None = Err fault.Renewable
+judged_life (Some life) = if nat_le 1 life && nat_le life LIFETIME_LIMIT then Ok life else Err fault.Renewable
+
+-- The greatest renewable life that decimal digits write.
+abbrev pub life_in : List ℕ → Result ℕ LineFault
+life_in digits = judged_life (number_in digits)
+
+-- The words with a greatest renewable life of these digits, if it may follow them.
+abbrev pub with_life : Words → List ℕ → Result Words LineFault
+with_life words digits =
+    if may_renew words then life_in digits >>= (λ life. Ok (renewed life words)) else Err fault.Words
+
+-- What the word of a greatest renewable life begins with.
+abbrev pub renewable_mark : List ℕ
+renewable_mark = codes "renewable="
+
+-- The word is that of a greatest renewable life.
+abbrev pub is_renewable : List ℕ → Bool
+is_renewable word = starts_with nat_eq word renewable_mark
+
+-- The words with one more, if it is one and may follow them.
+unfoldable pub next_words : Words → List ℕ → Result Words LineFault
+next_words words word =
+    if pointwise nat_eq word (codes "limits-des3") then if_may (may_limit words) (limited words)
+    else (if pointwise nat_eq word (codes "forwardable") then if_may (may_forward words) (forwarded words)
+    else (if pointwise nat_eq word (codes "proxiable") then if_may (may_proxy words) (proxied words)
+    else (if pointwise nat_eq word (codes "pkinit") then if_may (may_certify words) (certified words)
+    else (if is_renewable word then with_life words (drop (length renewable_mark) word) else Err fault.Words))))
+
+-- The words with each of these behind them.
+abbrev pub words_behind : Words → List (List ℕ) → Result Words LineFault
+words_behind words [] = Ok words
+words_behind words (word ∷ more) = next_words words word >>= (λ next. words_behind next more)
+
+-- What the words of a realm's line say: the policy, and whether logins by certificate are answered. A comma (44) is between each two.
+unfoldable pub words_in : List ℕ → Result Words LineFault
+words_in text = words_behind no_words (slice_split (λ octet. octet == 44) text)
 
 -- The settings with this policy.
 abbrev pub with_policy : Policy → SettingsRecord → SettingsRecord
@@ -139,13 +217,15 @@ realm_in name skew lifetime policy digits = do
   pkinit ← pkinit_in digits
   Ok (realm own_name (with_policy policy settings) pkinit)
 
+-- The realm's line of three fields, of words that were read, and of what logins by certificate are answered by, or `-` where they aren't.
+abbrev pub realm_by : List ℕ → List ℕ → List ℕ → List ℕ → Words → Result WrittenLine LineFault
+realm_by name skew lifetime digits words =
+    if words.is_certified then realm_in name skew lifetime words.policy (Some digits)
+    else (if pointwise nat_eq digits (codes "-") then realm_in name skew lifetime words.policy None else Err fault.NoPkinit)
+
 -- The realm's line of three fields and two further ones: the words of policy and logins by certificate, and what these are answered by.
 abbrev pub realm_with : List ℕ → List ℕ → List ℕ → List ℕ → List ℕ → Result WrittenLine LineFault
-realm_with name skew lifetime words digits =
-    if pointwise nat_eq words (codes "pkinit") then realm_in name skew lifetime NO_POLICY (Some digits)
-    else (if pointwise nat_eq words (codes "limits-des3,pkinit") then realm_in name skew lifetime (limiting true) (Some digits)
-    else (if pointwise nat_eq words (codes "limits-des3") && pointwise nat_eq digits (codes "-") then realm_in name skew lifetime (limiting true) None
-    else Err fault.Fields))
+realm_with name skew lifetime words digits = words_in words >>= realm_by name skew lifetime digits
 
 -- The line of these fields: of four, the first of which is the word `realm`, of these with two further ones, or of five.
 abbrev pub line_of : List (List ℕ) → Result WrittenLine LineFault

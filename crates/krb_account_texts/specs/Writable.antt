@@ -6,10 +6,10 @@ use Rattle.picky_asn1.specs.Bytes.{Bytes}
 use Rattle.krb_crypto.specs.Suites.{cipher_key_size}
 use Rattle.krb_realm_accounts.specs.Account.{AccountRecord}
 use Rattle.krb_realm_accounts.specs.Names.{AreComponents, IsRealmName}
-use Rattle.krb_realm_accounts.specs.Settings.{AreSettings, SettingsRecord}
+use Rattle.krb_realm_accounts.specs.Settings.{AreSettings, SettingsRecord, most_lifetime}
 use Rattle.krb_messages.specs.NameReading.{is_ascii}
 use Rattle.krb_account_texts.specs.Lines.{WrittenLine, comment, realm, account}
-use Rattle.krb_account_texts.specs.Reading.{is_disabled, is_printed, limiting}
+use Rattle.krb_account_texts.specs.Reading.{is_disabled, is_printed}
 
 -- A comment begins with `#`, not with the mark of a disabled account, and has no line feed.
 pub record IsComment (text : Bytes) : Type 0 where
@@ -22,12 +22,12 @@ abbrev pub ArePkinitBytes : Option Bytes → Type 0
 ArePkinitBytes None = Unit {0}
 ArePkinitBytes (Some octets) = IsBytes octets × (1 ≤ length octets)
 
--- A realm has a printable name and settings in their ranges, and a policy that a text has words for.
+-- A realm has a printable name and settings in their ranges. The greatest renewable life is a year at most.
 pub record IsRealm (name : Bytes) (settings : SettingsRecord) (pkinit : Option Bytes) : Type 0 where
   pub name_is : IsRealmName name
   pub printed : IsTrue (is_printed name)
   pub settings_are : AreSettings settings.skew settings.lifetime
-  pub policy_is : settings.policy ≡ limiting settings.policy.limits_des3
+  pub life_is : settings.policy.renewable_life ≤ most_lifetime
   pub pkinit_are : ArePkinitBytes pkinit
 
 -- A salt's octets are below 128, if there is one.

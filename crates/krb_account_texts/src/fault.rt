@@ -9,10 +9,18 @@ use thiserror::Error;
 /// Why a line is none of a text of accounts: what was expected. It shows nothing of the line.
 #[derive(Clone, Copy, Debug, PartialEq, Eq, Error)]
 pub enum LineFault {
-    /// The line has another number of fields, or four or six of which the first isn't `realm`, or six of which the fifth has other words than
-    /// `limits-des3` and `pkinit`, or no octets where it has `pkinit`.
-    #[error("expected name, suite, kvno, salt and key, or realm, name, skew and lifetime, and perhaps pkinit and its octets, or limits-des3 and -, or limits-des3,pkinit and octets, with a tab between each two")]
+    /// The line has another number of fields, or four or six of which the first isn't `realm`.
+    #[error("expected name, suite, kvno, salt and key, or realm, name, skew and lifetime, and perhaps words and octets or -, with a tab between each two")]
     Fields,
+    /// The fifth of six fields has another word than those of a realm's line, or one twice, or they are in another order.
+    #[error("words: expected some of limits-des3, forwardable, proxiable, renewable=SECONDS and pkinit, in this order, with a comma between each two")]
+    Words,
+    /// The greatest renewable life is no number of seconds from one to a year's.
+    #[error("renewable: expected a whole number of seconds from 1 to 31536000")]
+    Renewable,
+    /// The fifth of six fields doesn't have the word `pkinit`, and the sixth one isn't `-`.
+    #[error("expected - behind words without pkinit")]
+    NoPkinit,
     /// Behind the mark of a disabled account, `#disabled` and a tab, the line has another number of fields.
     #[error("expected name, suite, kvno, salt and key behind #disabled, with a tab between each two")]
     DisabledFields,

@@ -9,14 +9,16 @@ ghost use Rattle.krb_crypto.specs.Suites.{cipher_suites};
 ghost use Rattle.krb_settings.specs.Fields.{suite_name};
 ghost use Rattle.krb_messages.specs.NameReading.{is_ascii};
 ghost use Rattle.krb_account_texts.specs.Lines.{WrittenLine};
-ghost use Rattle.krb_account_texts.specs.Reading.{digits_behind, is_printed, key_in, judged_name, kvno_in, name_in, next_number, number_in, octets_told, pkinit_in, realm_name_in, salt_in, seconds_in, settings_of, sized_key, suite_in};
+ghost use Rattle.krb_account_texts.specs.Reading.{digits_behind, is_printed, key_in, judged_name, kvno_in, life_in, name_in, next_number, number_in, octets_told, pkinit_in, realm_name_in, salt_in, seconds_in, settings_of, sized_key, suite_in};
 ghost use Rattle.krb_account_texts.specs.Steps.{IsAside};
 
 use crate::fault::LineFault;
 use hex::FromHexError;
 use krb_crypto::{CipherSuite, Key};
 use krb_messages::{NameTextFault, components_of_text};
-use krb_realm_accounts::{RealmRefusal, Settings, components_of, is_realm_name, realm_name_of};
+use krb_realm_accounts::{
+    LIFETIME_LIMIT, RealmRefusal, Settings, components_of, is_realm_name, realm_name_of,
+};
 use krb_settings::suite_name;
 use picky_asn1::wrapper::{GeneralStringAsn1, OctetStringAsn1};
 use std::alloc::Global;
@@ -74,6 +76,16 @@ pub(crate) fn kvno_of(digits: &str) -> Result<u32, LineFault>
     match number_of(digits.as_bytes()) {
         Some(number) if 0 < number => Ok(number as u32),
         _ => Err(LineFault::Kvno),
+    }
+}
+
+/// A greatest renewable life in seconds: a decimal number from 1 to a year's.
+pub(crate) fn life_of(digits: &str) -> Result<u32, LineFault>
+    ensures { result ≡ life_in digits.now }
+{
+    match number_of(digits.as_bytes()) {
+        Some(number) if 1 <= number && number <= LIFETIME_LIMIT => Ok(number as u32),
+        _ => Err(LineFault::Renewable),
     }
 }
 

@@ -7,8 +7,8 @@ ghost use Rattle.krb_account_texts.specs.Reading.{account_in, lines_in};
 ghost use Rattle.krb_account_texts.specs.Writable.{AreWritable, IsAccount};
 
 /// What is written of lines is read as the same lines, if each is writable. A comment is one line that begins with `#`, and not with the
-/// mark of a disabled account. A realm's name is printable, and its settings are in their ranges. An account's name is a principal's, its
-/// key has its suite's length, its salt's octets are below 128, and its kvno is at least 1 and below 2^32.
+/// mark of a disabled account. A realm's name is printable, and its settings and greatest renewable life are in their ranges. An account's
+/// name is a principal's, its key has its suite's length, its salt's octets are below 128, and its kvno is at least 1 and below 2^32.
 pub fn written_is_read()
     ensures { (lines : List WrittenLine) → AreWritable lines → lines_in (text_of lines) ≡ Ok lines }
 {}

@@ -10,9 +10,10 @@
 //!
 //! A tab, and no blank, is between each two fields. An account's are its name as RFC 1964 writes it, the suite, the kvno, the salt or
 //! `-`, and the key. Behind the word `#disabled` they are a disabled account's. The realm's are its name, the clock skew and the greatest
-//! lifetime of a ticket, both in seconds. Where a policy is set or logins by certificate are answered, a word of each follows, and what these
-//! are answered by. `specs/Lines` has what each line is written as, and
-//! `specs/Reading` how a text is read.
+//! lifetime of a ticket, both in seconds. Where a policy is set or logins by certificate are answered, two fields follow: words with a comma
+//! between each two, and what logins by certificate are answered by, or `-`. The words are `limits-des3`, `forwardable`, `proxiable`,
+//! `renewable=604800` with the greatest renewable life in seconds, and `pkinit`, in this order. `specs/Lines` has what each line is written
+//! as, and `specs/Reading` how a text is read.
 //!
 //! [`read_lines`] returns the lines that a text writes, or its first fault with the number of its line. [`text_of`] writes lines, and what
 //! is written is read as the same lines (law `written_is_read`). [`add`], [`change_key`], [`remove`], [`disable`] and [`enable`] change the
@@ -31,6 +32,7 @@ mod patterns;
 mod reading;
 mod showing;
 mod typed;
+mod words;
 
 pub use edits::{
     EditRefusal, add, certify, change_key, disable, enable, is_krbtgt, place_of, remove,

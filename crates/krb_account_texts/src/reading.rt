@@ -4,7 +4,7 @@ ghost use Rattle.std.specs.List.{slice_split};
 ghost use Rattle.std.specs.Option.{option_map};
 ghost use Rattle.krb_constants.specs.declared.types.TheConstants.{NT_PRINCIPAL};
 ghost use Rattle.krb_account_texts.specs.Lines.{disabled_mark, written};
-ghost use Rattle.krb_account_texts.specs.Reading.{account_in, disabled_of, fields, is_disabled, is_ended, line_in, line_of, lines_in, lines_of, name_in, numbered, realm_in};
+ghost use Rattle.krb_account_texts.specs.Reading.{account_in, disabled_of, fields, is_disabled, is_ended, line_in, line_of, lines_in, lines_of, name_in, numbered, realm_by, realm_in};
 ghost use Rattle.krb_account_texts.specs.Steps.{IsAside, each_from};
 
 use crate::fault::{LineFault, TextFault};
@@ -13,6 +13,7 @@ use crate::fields::{
     suite_of,
 };
 use crate::line::{AccountLine, Line, RealmLine, principal_name};
+use crate::words::{Words, words_of};
 use krb_messages::data_types::PrincipalName;
 use krb_realm_accounts::{Account, NO_POLICY, Policy};
 use std::alloc::{AllocError, Global};
@@ -194,20 +195,26 @@ fn realm_with(alloc: Global, start: RealmStart<'_>, further: Further<'_>) -> Res
     if start.word != "realm" {
         return Err(LineFault::Fields);
     }
-    if further.words == "pkinit" {
-        return realm_of(alloc, start, NO_POLICY, Some(further.digits));
+    let words = words_of(alloc, further.words)?;
+    realm_by(alloc, start, further.digits, words)
+}
+
+// The realm's line of these words.
+fn realm_by(
+    alloc: Global,
+    start: RealmStart<'_>,
+    digits: &str,
+    words: Words,
+) -> Result<Line, LineFault>
+    ensures { IsAside LineFault.Memory written (realm_by start.entry.name.now start.entry.skew.now start.entry.lifetime.now digits.now words) result }
+{
+    if words.is_certified {
+        return realm_of(alloc, start, words.policy, Some(digits));
     }
-    let policy = Policy {
-        limits_des3: true,
-        ..NO_POLICY
-    };
-    if further.words == "limits-des3,pkinit" {
-        return realm_of(alloc, start, policy, Some(further.digits));
+    if digits == "-" {
+        return realm_of(alloc, start, words.policy, None);
     }
-    if further.words == "limits-des3" && further.digits == "-" {
-        return realm_of(alloc, start, policy, None);
-    }
-    Err(LineFault::Fields)
+    Err(LineFault::NoPkinit)
 }
 
 #[tactic(auto, unfolding(crate::specs::Reading::realm_in))]

@@ -1,12 +1,13 @@
 //! Writing a text of accounts.
-ghost use Rattle.std.specs.Prelude.{◌≡◌, ◌∷◌, ◌++◌, [], map, string_bytes, IfOk, OnOk};
+ghost use Rattle.std.specs.Prelude.{◌≡◌, ◌∷◌, ◌++◌, [], map, nat_lt, string_bytes, IfOk, OnOk};
 ghost use Rattle.std.specs.Option.{option_map};
 ghost use Rattle.krb_messages.specs.NameText.{name_text};
-ghost use Rattle.krb_account_texts.specs.Lines.{account_fields, account_text, further_text, guarded, line_text, realm_text, salt_text, text_of, written};
+ghost use Rattle.krb_account_texts.specs.Lines.{account_fields, account_text, before, further_by, further_text, guarded, line_text, realm_text, renewable_word, salt_text, text_of, words_text, written};
 
 use crate::line::{AccountLine, Line, RealmLine};
 use crate::reading::is_comment;
 use krb_messages::data_types::PrincipalName;
+use krb_realm_accounts::Policy;
 use krb_settings::suite_name;
 use picky_asn1::wrapper::OctetStringAsn1;
 use std::alloc::{AllocError, Global};
@@ -47,30 +48,74 @@ fn realm_text(alloc: Global, line: &RealmLine) -> Result<String, AllocError>
     let name = &line.name;
     let skew = line.settings.skew();
     let lifetime = line.settings.lifetime();
-    let further = further_text(alloc, line.settings.policy().limits_des3, &line.pkinit)?;
+    let further = further_text(alloc, line.settings.policy(), &line.pkinit)?;
     format!(in alloc; "realm\t{name}\t{skew}\t{lifetime}{further}")
 }
 
 // What follows in the realm's line.
 fn further_text(
     alloc: Global,
-    limits_des3: bool,
+    policy: Policy,
     pkinit: &Option<OctetStringAsn1>,
 ) -> Result<String, AllocError>
-    ensures { IfOk result (λ text. string_bytes text ≡ further_text limits_des3 pkinit.now) }
+    ensures { IfOk result (λ text. string_bytes text ≡ further_text policy pkinit.now) }
 {
-    match (pkinit, limits_des3) {
-        (None, false) => Ok(String::new(alloc)),
-        (None, true) => String::from_str(alloc, "\tlimits-des3\t-"),
-        (Some(octets), false) => {
-            let digits = hex::encode(alloc, octets.as_bytes())?;
-            format!(in alloc; "\tpkinit\t{digits}")
-        }
-        (Some(octets), true) => {
-            let digits = hex::encode(alloc, octets.as_bytes())?;
-            format!(in alloc; "\tlimits-des3,pkinit\t{digits}")
-        }
+    let words = words_text(alloc, policy, pkinit.is_some())?;
+    let digits = digits_text(alloc, pkinit)?;
+    further_by(alloc, words, digits)
+}
+
+// What follows in the realm's line, of words and octets.
+fn further_by(alloc: Global, words: String, octets: String) -> Result<String, AllocError>
+    ensures { IfOk result (λ text. string_bytes text ≡ further_by (string_bytes words) (string_bytes octets)) }
+{
+    if words.is_empty() {
+        return Ok(words);
     }
+    format!(in alloc; "\t{words}\t{octets}")
+}
+
+// The hexadecimal digits of octets, or `-` if there are none.
+fn digits_text(alloc: Global, octets: &Option<OctetStringAsn1>) -> Result<String, AllocError>
+    ensures { IfOk result (λ text. string_bytes text ≡ salt_text octets.now) }
+{
+    match octets {
+        None => String::from_str(alloc, "-"),
+        Some(octets) => hex::encode(alloc, octets.as_bytes()),
+    }
+}
+
+// The words of policy and of logins by certificate.
+#[tactic(auto, unfolding(crate::specs::Lines::words_text))]
+fn words_text(alloc: Global, policy: Policy, is_certified: bool) -> Result<String, AllocError>
+    ensures { IfOk result (λ text. string_bytes text ≡ words_text policy is_certified) }
+{
+    let text = before(alloc, is_certified, "pkinit", String::new(alloc))?;
+    let text = before_life(alloc, policy.renewable_life, text)?;
+    let text = before(alloc, policy.proxiable, "proxiable", text)?;
+    let text = before(alloc, policy.forwardable, "forwardable", text)?;
+    before(alloc, policy.limits_des3, "limits-des3", text)
+}
+
+// The word of a greatest renewable life before a text of words, if there is such a life.
+fn before_life(alloc: Global, life: u32, text: String) -> Result<String, AllocError>
+    ensures { IfOk result (λ more. string_bytes more ≡ before (nat_lt 0 life) (renewable_word life) (string_bytes text)) }
+{
+    let word = format!(in alloc; "renewable={life}")?;
+    before(alloc, 0 < life, &word, text)
+}
+
+// A word before a text of words, if the word is there.
+fn before(alloc: Global, is: bool, word: &str, text: String) -> Result<String, AllocError>
+    ensures { IfOk result (λ more. string_bytes more ≡ before is word.now (string_bytes text)) }
+{
+    if !is {
+        return Ok(text);
+    }
+    if text.is_empty() {
+        return String::from_str(alloc, word);
+    }
+    format!(in alloc; "{word},{text}")
 }
 
 fn account_text(alloc: Global, line: &AccountLine) -> Result<String, AllocError>

@@ -1,5 +1,5 @@
 """Writes account_texts.txt: texts of accounts by a writer of its own, and what is said of damaged ones, written by hand."""
-import fnmatch, random
+import fnmatch, itertools, random, re
 
 random.seed(51)
 SUITES = {"aes128-cts-hmac-sha1-96": 16, "aes256-cts-hmac-sha1-96": 32, "des3-cbc-sha1-kd": 24,
@@ -72,7 +72,7 @@ for _ in range(60):
 
 KEY = "00" * 16
 ONE = "a\taes128-cts-hmac-sha1-96\t1\t-\t" + KEY + "\n"
-FIELDS = "expected name, suite, kvno, salt and key, or realm, name, skew and lifetime, and perhaps pkinit and its octets, or limits-des3 and -, or limits-des3,pkinit and octets, with a tab between each two"
+FIELDS = "expected name, suite, kvno, salt and key, or realm, name, skew and lifetime, and perhaps words and octets or -, with a tab between each two"
 NAME = "name: expected 1 to 16 components of 1 to 255 ASCII characters, with / between each two"
 SUITE = "suite: expected one of " + ", ".join(SUITES)
 KVNO = "kvno: expected a whole number from 1 to 4294967295"
@@ -85,6 +85,9 @@ SECONDS = "realm: expected a skew from 0 to 86400 seconds and a lifetime from 1 
 NAME_OR_SUITE = SUITE
 NO_REALM = "expected the line of the realm before all accounts: realm, name, skew and lifetime"
 PKINIT = "pkinit: expected pairs of hexadecimal digits, as certify writes them"
+WORD = "words: expected some of limits-des3, forwardable, proxiable, renewable=SECONDS and pkinit, in this order, with a comma between each two"
+RENEWABLE = "renewable: expected a whole number of seconds from 1 to 31536000"
+NO_PKINIT = "expected - behind words without pkinit"
 ORDER = "name: expected accounts in the order of their names, each name once"
 DISABLED = "expected name, suite, kvno, salt and key behind #disabled, with a tab between each two"
 COMMENTED = "# first\n#\tsecond\n" + HEAD + "# third\n" + ONE + "#\n"
@@ -117,7 +120,7 @@ for text, fault in [
     (HEAD.replace("300", "86401"), "1: " + SECONDS), (HEAD.replace("36000", "0"), "1: " + SECONDS), (HEAD.replace("36000", "31536001"), "1: " + SECONDS),
     (HEAD.replace("300", "x"), "1: " + SECONDS),
     (HEAD.replace("\n", "\tpkinit\t\n"), "1: " + PKINIT), (HEAD.replace("\n", "\tpkinit\t0\n"), "1: " + PKINIT), (HEAD.replace("\n", "\tpkinit\t0g\n"), "1: " + PKINIT),
-    (HEAD.replace("\n", "\tpkinit\t-\n"), "1: " + PKINIT), (HEAD.replace("\n", "\tpkinit\n"), "1: " + NAME_OR_SUITE), (HEAD.replace("\n", "\tPKINIT\t00\n"), "1: " + FIELDS),
+    (HEAD.replace("\n", "\tpkinit\t-\n"), "1: " + PKINIT), (HEAD.replace("\n", "\tpkinit\n"), "1: " + NAME_OR_SUITE), (HEAD.replace("\n", "\tPKINIT\t00\n"), "1: " + WORD),
     (HEAD.replace("\n", "\tpkinit\t00\t\n"), "1: " + FIELDS), (HEAD.replace("realm", "Realm").replace("\n", "\tpkinit\t00\n"), "1: " + FIELDS),
     (HEAD.replace("300", "86401").replace("\n", "\tpkinit\t0g\n"), "1: " + SECONDS),
 ]:
@@ -175,10 +178,51 @@ row("certify", fold(LIMITED + ONE), "00ff", fold(BOTH + ONE))
 row("certify", fold(BOTH + ONE), "-", fold(LIMITED + ONE))
 row("remove", fold(LIMITED + ONE), "a", fold(LIMITED))
 for further, fault in [
-    ("limits-des3\t00", FIELDS), ("limits-des3\t", FIELDS), ("limits-des3", NAME_OR_SUITE), ("limits-des3,pkinit\t-", PKINIT), ("pkinit,limits-des3\t00", FIELDS),
-    ("limits-des3\t-\tpkinit\t00", FIELDS), ("limits\t-", FIELDS),
+    ("limits-des3\t00", NO_PKINIT), ("limits-des3\t", NO_PKINIT), ("limits-des3", NAME_OR_SUITE), ("limits-des3,pkinit\t-", PKINIT), ("pkinit,limits-des3\t00", WORD),
+    ("limits-des3\t-\tpkinit\t00", FIELDS), ("limits\t-", WORD),
 ]:
     row("read", fold(HEAD.replace("\n", f"\t{further}\n")), "1: " + fault)
+
+# The words of a policy. What is read of them is judged here word by word.
+WORDS = ["limits-des3", "forwardable", "proxiable", "renewable", "pkinit"]
+
+def fault_of(words, pkinit):
+    last = -1
+    for word in words.split(","):
+        name, mark, seconds = word.partition("=")
+        place = WORDS.index(name) if name in WORDS and (name == "renewable") == (mark == "=") else -1
+        if place <= last:
+            return WORD
+        if mark and not (re.fullmatch("[0-9]+", seconds) and 1 <= int(seconds) <= 31536000):
+            return RENEWABLE
+        last = place
+    if WORDS[last] == "pkinit":
+        return None if re.fullmatch("([0-9a-fA-F]{2})+", pkinit) else PKINIT
+    return None if pkinit == "-" else NO_PKINIT
+
+def realm(words, pkinit):
+    further = [*words, *(["pkinit"] if pkinit else [])]
+    return HEAD.replace("\n", f"\t{','.join(further)}\t{pkinit.hex() if pkinit else '-'}\n") if further else HEAD
+
+for chosen in itertools.product([False, True], repeat=4):
+    life = random.choice([1, 2, 604800, 31535999, 31536000, random.randrange(1, 31536001)])
+    words = [f"{word}={life}" if word == "renewable" else word for word, is_set in zip(WORDS, chosen) if is_set]
+    without, certified = realm(words, b""), realm(words, b"\x00\xff")
+    row("read", fold(without + ONE), fold(without + ONE))
+    row("read", fold(certified.replace("00ff", "00FF").replace(f"={life}", f"=00{life}") + ONE), fold(certified + ONE))
+    row("certify", fold(without + ONE), "00ff", fold(certified + ONE))
+    row("certify", fold(certified + ONE), "-", fold(without + ONE))
+    row("disable", fold(without + ONE), "a", fold(without + "#disabled\t" + ONE))
+
+ODD = ["limits-des3", "forwardable", "proxiable", "pkinit", "renewable=604800", "renewable=1", "renewable=31536000", "renewable", "renewable=", "renewable=0",
+       "renewable=31536001", "renewable=-1", "renewable=1d", "renewable= 1", "renewable=4294967296", "renewable=99999999999999999999", "renewable==1", "forwardable=",
+       "Forwardable", "proxiable ", " forwardable", "forwardables", "forward", "renewable=1=", "-", ""]
+tried = [*ODD, *(random.choice(ODD) + "," + random.choice(ODD) for _ in range(30)), *(",".join(random.sample(ODD[:5], random.randrange(2, 6))) for _ in range(30))]
+for words in sorted(set(tried)):
+    for pkinit in "-", random.choice(["00", "0", "", "--", "0F"]):
+        text = HEAD.replace("\n", f"\t{words}\t{pkinit}\n") + ONE
+        fault = fault_of(words, pkinit)
+        row("read", fold(text), "1: " + fault if fault else fold(text.replace("\t0F\n", "\t0f\n")))
 
 with open("account_texts.txt", "w", encoding="utf-8") as out:
     out.write("".join(row + "\n" for row in rows))
