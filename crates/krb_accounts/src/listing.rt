@@ -5,7 +5,7 @@ use crate::arguments::{expected, name_of};
 use krb_account_texts::{AccountLine, EditRefusal, Line, Pattern, RealmLine, salt_text};
 use krb_commands::{Stop, account_among, failed, lines_of, printable_of};
 use krb_messages::data_types::PrincipalName;
-use krb_realm_accounts::Account;
+use krb_realm_accounts::{Account, Policy};
 use krb_settings::suite_name;
 use std::alloc::{AllocError, Global};
 use std::fmt::Display;
@@ -14,8 +14,9 @@ use std::io::IsTerminal;
 /// What is above the accounts at a terminal. What isn't one gets no header, so that programs read lines of accounts alone.
 const HEADER: &str = "name\tsuite\tkvno\tkey\n";
 
-/// `list TEXT [PATTERN]`: prints the realm, and whether it answers logins by certificate, and each account's name, suite, kvno, whether its
-/// key is of a password, and whether it is disabled. With a pattern, it prints the accounts whose names it matches, and no realm.
+/// `list TEXT [PATTERN]`: prints the realm, its policy, and whether it answers logins by certificate. It prints each account's name, suite,
+/// kvno, whether its key is of a password, and whether it is disabled. With a pattern, it prints the accounts whose names it matches, and no
+/// realm.
 pub(crate) fn list(rt: &HostRuntime, arguments: &[String]) -> Result<(), Stop> {
     match arguments {
         [path] => print_listed(rt, path.as_str(), None),
@@ -106,17 +107,26 @@ fn realm_listed(alloc: Global, realm: &RealmLine) -> Result<String, AllocError> 
     let name = &realm.name;
     let skew = realm.settings.skew();
     let lifetime = realm.settings.lifetime();
-    let policy = if realm.settings.policy().limits_des3 {
-        "\tlimits-des3"
-    } else {
-        ""
-    };
-    let further = if realm.pkinit.is_some() {
-        "\tpkinit"
-    } else {
-        ""
-    };
+    let policy = policy_listed(alloc, realm.settings.policy())?;
+    let further = word_if(realm.pkinit.is_some(), "\tpkinit");
     format!(in alloc; "realm\t{name}\t{skew}\t{lifetime}{policy}{further}\n")
+}
+
+// The words of a policy, each behind a tab.
+fn policy_listed(alloc: Global, policy: Policy) -> Result<String, AllocError> {
+    let limits = word_if(policy.limits_des3, "\tlimits-des3");
+    let forwardable = word_if(policy.forwardable, "\tforwardable");
+    let proxiable = word_if(policy.proxiable, "\tproxiable");
+    let life = policy.renewable_life;
+    if life == 0 {
+        return format!(in alloc; "{limits}{forwardable}{proxiable}");
+    }
+    format!(in alloc; "{limits}{forwardable}{proxiable}\trenewable={life}")
+}
+
+// The word, if it is there.
+fn word_if(is: bool, word: &'static str) -> &'static str {
+    if is { word } else { "" }
 }
 
 fn account_listed(alloc: Global, own: &AccountLine) -> Result<String, AllocError> {

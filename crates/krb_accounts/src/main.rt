@@ -40,7 +40,8 @@ const USAGE: &str = "usage:
   krb_accounts create [-e SUITE] [-k random] TEXT REALM
                                                       makes TEXT, with the realm's key from standard input, or at random
   krb_accounts import SETTINGS TEXT                   makes TEXT of a settings file of krb_realm
-  krb_accounts list TEXT [PATTERN]                    prints names, suites and kvnos, of the accounts whose names are as PATTERN
+  krb_accounts list TEXT [PATTERN]                    prints the realm and its policy, and names, suites and kvnos; with PATTERN those of
+                                                      the accounts whose names are as PATTERN alone
   krb_accounts show TEXT NAME                         prints what TEXT says of one account, but not its key
   krb_accounts add [-e SUITE] [-k [random]] TEXT NAME adds an account, with kvno 1
   krb_accounts key [-e SUITE] [-k [random]] TEXT NAME gives an account its next key, with the next kvno
@@ -58,7 +59,10 @@ const USAGE: &str = "usage:
 Standard input is one line: the password, or with -k and for create the key in hexadecimal digits. With -k random it isn't read: the key is
 made of the system's random octets. NAME is as in host/server.example.com. In PATTERN * is for any characters, / too, and ? for one.
 SUITE is a name such as aes256-cts-hmac-sha1-96, which is also that of create and add if none is given. key keeps the account's suite.
-CERTIFICATE, KEY and ANCHOR are files, in PEM or DER. KEY has at least 2,048 bits, and is not encrypted.";
+CERTIFICATE, KEY and ANCHOR are files, in PEM or DER. KEY has at least 2,048 bits, and is not encrypted.
+The realm's policy is set in TEXT by an editor: behind skew and lifetime, with a tab between each two, the realm's line has the words and -,
+or with the word pkinit what certify writes. The words are limits-des3, forwardable, proxiable, renewable=SECONDS and pkinit, in this order,
+with a comma between each two. SECONDS, from 1 to 31536000, is how long a ticket may be renewed. What has no word is off.";
 
 fn main(rt: HostRuntime) -> ExitCode {
     match run(&rt) {
