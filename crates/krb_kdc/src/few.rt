@@ -1,5 +1,5 @@
 //! The few accounts that were looked up.
-ghost use Rattle.std.specs.Prelude.{◌≡◌, IfErr, IfOk, OnOk};
+ghost use Rattle.std.specs.Prelude.{◌≡◌, IfErr, OnOk};
 ghost use Rattle.std.specs.FinMap as finite;
 ghost use Rattle.std.specs.Option.{is_some};
 ghost use Rattle.krb_realm_accounts.specs.Accounts.{Look, look_in};
@@ -11,7 +11,7 @@ use crate::fault::LookupFault;
 use crate::lookup::Lookup;
 use krb_realm_accounts::{Account, Accounts};
 use picky_asn1::wrapper::GeneralStringAsn1;
-use std::alloc::{AllocError, Global};
+use std::alloc::Global;
 
 /// Looks the account of a name up and puts it among the few, if it is not among them.
 pub(crate) fn fetch<L: Lookup>(
@@ -49,20 +49,9 @@ fn put(
     ensures few { OnOk result (few.new ≡ finite.insert few.old name.now account) }
     ensures fault { IfErr result (λ fault. fault ≡ Memory) }
 {
-    let own = copy_of(alloc, name)?;
+    let own = name.to_vec(alloc)?;
     match few.insert_new(own, account) {
         Ok(()) => Ok(()),
         Err(_) => Err(LookupFault::Memory),
     }
-}
-
-// Returns a copy of a name.
-fn copy_of(alloc: Global, name: &[GeneralStringAsn1]) -> Result<Vec<GeneralStringAsn1>, AllocError>
-    ensures { IfOk result (λ copy. copy.items ≡ name.now) }
-{
-    let mut copy = Vec::new(alloc);
-    for component in name {
-        copy.push(component.clone()?)?;
-    }
-    Ok(copy)
 }
