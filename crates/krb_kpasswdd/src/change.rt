@@ -3,9 +3,9 @@
 use crate::admins::admins_of;
 use crate::database::database_of;
 use crate::desk::Desk;
-use kpasswd_messages::ResultCode;
 use krb_account_texts::is_krbtgt;
 use krb_commands::{FileKind, NewFile, Stop, begin, lines_of, whole_text};
+use krb_password_changes::messages::ResultCode;
 use krb_password_changes::{Admitted, ChangeRefusal, Granted, change_password};
 
 /// The octets of the text and of its database after a change.

@@ -4,9 +4,9 @@ ghost use Rattle.std.specs.Prelude.{◌≤◌, length};
 use crate::PROGRAM;
 use crate::change::change;
 use crate::desk::Desk;
-use kpasswd_messages::{FrameRefusal, ResultCode};
 use krb_commands::{RandomFile, Stop, failed, moment_or_now};
 use krb_frames::{FRAME_LIMIT, ServeFault, read_frame, write_frame};
+use krb_password_changes::messages::{FrameRefusal, ResultCode};
 use krb_password_changes::{
     Admitted, ChangeRefusal, Target, admit_request, reply_to_admitted, reply_to_refused,
 };

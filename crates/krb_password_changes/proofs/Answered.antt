@@ -5,9 +5,9 @@ use Rattle.krb_ap_requests.specs.declared.refusal.AdmitRefusal.{AdmitRefusal}
 use Rattle.krb_ap_requests.specs.declared.refusal.AdmitRefusal.TheVariants as admit
 use Rattle.krb_service.specs.RememberingService.{IsStep}
 use Rattle.krb_service.specs.Seen.{IsWindow, SeenRecord}
-use Rattle.kpasswd_messages.specs.Frames.{IsFrame, frame_table}
-use Rattle.kpasswd_messages.specs.declared.result_code.ResultCode.{ResultCode}
-use Rattle.kpasswd_messages.specs.declared.version.Version.{Version}
+use Rattle.krb_password_changes.specs.Frames.{IsFrame, frame_table}
+use Rattle.krb_password_changes.specs.declared.messages.result_code.ResultCode.{ResultCode}
+use Rattle.krb_password_changes.specs.declared.messages.version.Version.{Version}
 use Rattle.picky_asn1.specs.Bytes.{Bytes}
 use Rattle.krb_password_changes.specs.Answers.{Caller, IsAdmitting, IsAnswered, admitting}
 use Rattle.krb_password_changes.specs.declared.judge.Granted.{Granted}

@@ -1,7 +1,7 @@
 -- What the parts of a table give, the table gives.
 use Rattle.std.proofs.Common.{◌≡◌, Result, Ok, Err, refl, sym, subst, inl, inr}
 use Rattle.decision_tables.specs.Tables.{Table, and_then, done}
-use Rattle.kpasswd_messages.specs.declared.result_code.ResultCode.{ResultCode}
+use Rattle.krb_password_changes.specs.declared.messages.result_code.ResultCode.{ResultCode}
 use Rattle.krb_password_changes.specs.Refusals.{IsJudged}
 use Rattle.krb_password_changes.specs.declared.refusal.ChangeRefusal.{ChangeRefusal}
 use Rattle.krb_password_changes.specs.declared.refusal.ChangeRefusal.TheVariants.{Refused, Memory}

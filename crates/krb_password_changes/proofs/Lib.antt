@@ -1,6 +1,8 @@
-pub mod Judged
-pub mod Settled
 pub mod Answered
 pub mod AskedFor
+pub mod Cuts
+pub mod FramesJudged
+pub mod Judged
 pub mod Once
 pub mod Replied
+pub mod Settled

@@ -16,8 +16,8 @@ use Rattle.krb_service.specs.RememberingService.{IsStep, remembering_by}
 use Rattle.krb_service.specs.Runs.{AdmissionCall, IsRun, answer_to}
 use Rattle.krb_service.specs.Seen.{IsWindow, SeenRecord}
 use Rattle.krb_service.specs.Unasked.{IsRepliedTo}
-use Rattle.kpasswd_messages.specs.Frames.{IsFrame}
-use Rattle.kpasswd_messages.specs.declared.version.Version.{Version}
+use Rattle.krb_password_changes.specs.Frames.{IsFrame}
+use Rattle.krb_password_changes.specs.declared.messages.version.Version.{Version}
 use Rattle.krb_service.specs.declared.reply.ReplyFields.TheVariants.{TimeAlone}
 use Rattle.picky_asn1.specs.Bytes.{Bytes}
 use Rattle.krb_password_changes.specs.Answers.{Caller, IsAnswered}

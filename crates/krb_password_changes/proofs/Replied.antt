@@ -2,8 +2,8 @@
 use Rattle.std.proofs.Common.{◌≡◌, ◌⊎◌, None, Some, refl, subst, sym, inl, inr}
 use Rattle.std.specs.Int.{cast_unsigned, w32}
 use Rattle.asn1_der.specs.Tree.{IsWhole, der}
-use Rattle.kpasswd_messages.specs.Frames.{IsFrame}
-use Rattle.kpasswd_messages.specs.declared.version.Version.TheVariants.{ChangePassword}
+use Rattle.krb_password_changes.specs.Frames.{IsFrame}
+use Rattle.krb_password_changes.specs.declared.messages.version.Version.TheVariants.{ChangePassword}
 use Rattle.krb_constants.specs.declared.key_usages.TheConstants as usages
 use Rattle.krb_crypto.specs.Suites.{cipher_confounder_size}
 use Rattle.krb_messages.specs.declared.data_types.encrypted_data.EncryptedData.{EncryptedData}

@@ -6,9 +6,9 @@ use Rattle.krb_account_texts.specs.declared.edits.EditRefusal.{EditRefusal}
 use Rattle.krb_account_texts.specs.declared.edits.EditRefusal.TheVariants.{Unknown, NumberSpent}
 use Rattle.krb_account_texts.specs.declared.line.Line.{Line}
 use Rattle.krb_service.specs.Admission.{AdmissionRecord}
-use Rattle.kpasswd_messages.specs.declared.result_code.ResultCode.{ResultCode}
-use Rattle.kpasswd_messages.specs.declared.result_code.ResultCode.TheVariants.{HardError}
-use Rattle.kpasswd_messages.specs.declared.version.Version.{Version}
+use Rattle.krb_password_changes.specs.declared.messages.result_code.ResultCode.{ResultCode}
+use Rattle.krb_password_changes.specs.declared.messages.result_code.ResultCode.TheVariants.{HardError}
+use Rattle.krb_password_changes.specs.declared.messages.version.Version.{Version}
 use Rattle.picky_asn1.specs.Bytes.{Bytes}
 use Rattle.krb_password_changes.specs.declared.judge.Granted.{Granted}
 use Rattle.krb_password_changes.specs.ChangeTable.{RulesRecord, allowed_target, granted_change, judged_change, judged_message, judged_private, numbered, opened, opened_private, read_private, settable, strong}

@@ -12,9 +12,9 @@ use Rattle.krb_service.specs.Seen.{IsWindow, SeenRecord}
 use Rattle.krb_service.specs.Unasked.{remembering_unasked}
 use Rattle.krb_service.specs.declared.reply.ReplyFields.TheVariants.{TimeAlone}
 use Rattle.krb_time.specs.Units.{Micros}
-use Rattle.kpasswd_messages.specs.Frames.{IsFrame, frame_table}
-use Rattle.kpasswd_messages.specs.declared.result_code.ResultCode.{ResultCode}
-use Rattle.kpasswd_messages.specs.declared.version.Version.{Version}
+use Rattle.krb_password_changes.specs.Frames.{IsFrame, frame_table}
+use Rattle.krb_password_changes.specs.declared.messages.result_code.ResultCode.{ResultCode}
+use Rattle.krb_password_changes.specs.declared.messages.version.Version.{Version}
 use Rattle.picky_asn1.specs.Bytes.{Bytes}
 use Rattle.krb_password_changes.specs.ChangeTable.{RulesRecord}
 use Rattle.krb_password_changes.specs.NewPasswords.{Changes}

@@ -15,9 +15,9 @@ use Rattle.krb_messages.specs.declared.data_types.encryption_key.EncryptionKey.{
 use Rattle.krb_messages.specs.declared.data_types.principal_name.PrincipalName.{PrincipalName}
 use Rattle.krb_service.specs.Admission.{AdmissionRecord}
 use Rattle.krb_tickets.specs.Keys.{suite_of}
-use Rattle.kpasswd_messages.specs.declared.result_code.ResultCode.{ResultCode}
-use Rattle.kpasswd_messages.specs.declared.result_code.ResultCode.TheVariants.{Malformed, HardError, AuthError, SoftError, AccessDenied, InitialFlagNeeded}
-use Rattle.kpasswd_messages.specs.declared.version.Version.{Version}
+use Rattle.krb_password_changes.specs.declared.messages.result_code.ResultCode.{ResultCode}
+use Rattle.krb_password_changes.specs.declared.messages.result_code.ResultCode.TheVariants.{Malformed, HardError, AuthError, SoftError, AccessDenied, InitialFlagNeeded}
+use Rattle.krb_password_changes.specs.declared.messages.version.Version.{Version}
 use Rattle.microsoft_messages.specs.declared.change_passwd_data.ChangePasswdData.{ChangePasswdData}
 use Rattle.microsoft_messages.specs.declared.enc_krb_priv_part.EncKrbPrivPartInner.{EncKrbPrivPartInner}
 use Rattle.microsoft_messages.specs.declared.krb_priv.KrbPrivInner.{KrbPrivInner}

@@ -15,8 +15,8 @@ use Rattle.krb_messages.specs.declared.data_types.principal_name.PrincipalName.{
 use Rattle.microsoft_messages.specs.declared.change_passwd_data.ChangePasswdData.{ChangePasswdData}
 use Rattle.microsoft_messages.specs.contracts.change_passwd_data.ChangePasswdDataTagged.TheImpl as change_impl
 use Rattle.krb_service.specs.Admission.{AdmissionRecord}
-use Rattle.kpasswd_messages.specs.declared.version.Version.{Version}
-use Rattle.kpasswd_messages.specs.declared.version.Version.TheVariants.{ChangePassword, SetPassword}
+use Rattle.krb_password_changes.specs.declared.messages.version.Version.{Version}
+use Rattle.krb_password_changes.specs.declared.messages.version.Version.TheVariants.{ChangePassword, SetPassword}
 
 abbrev pub change_tree : ChangePasswdData → Tree
 change_tree = tagged_tree sequence_octet change_impl.ghosts.row_tree change_impl.ghosts.row_of

@@ -5,7 +5,7 @@ use Rattle.krb_crypto.specs.declared.suite.CipherSuite.{CipherSuite}
 use Rattle.krb_messages.specs.Names.{is_same_realm}
 use Rattle.krb_service.specs.Admission.{AdmissionRecord}
 use Rattle.krb_tickets.specs.Keys.{suite_of}
-use Rattle.kpasswd_messages.specs.declared.version.Version.{Version}
+use Rattle.krb_password_changes.specs.declared.messages.version.Version.{Version}
 use Rattle.microsoft_messages.specs.declared.change_passwd_data.ChangePasswdData.{ChangePasswdData}
 use Rattle.microsoft_messages.specs.declared.enc_krb_priv_part.EncKrbPrivPartInner.{EncKrbPrivPartInner}
 use Rattle.microsoft_messages.specs.declared.krb_priv.KrbPrivInner.{KrbPrivInner}

@@ -1,8 +1,12 @@
+pub mod Answers
+pub mod ChangeTable
 pub mod Changes
+pub mod Facts
+pub mod Frames
+pub mod NewPasswords
 pub mod Privates
 pub mod Refusals
-pub mod ChangeTable
-pub mod NewPasswords
-pub mod Answers
-pub mod Facts
 pub mod Replies
+pub mod ResultCodes
+pub mod Results
+pub mod Versions

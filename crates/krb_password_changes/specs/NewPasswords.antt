@@ -7,7 +7,7 @@ use Rattle.krb_crypto.specs.declared.suite.CipherSuite.{CipherSuite}
 use Rattle.krb_messages.specs.Names.{components}
 use Rattle.krb_realm_accounts.specs.Passwords.{password_salt}
 use Rattle.krb_service.specs.Admission.{AdmissionRecord}
-use Rattle.kpasswd_messages.specs.declared.version.Version.{Version}
+use Rattle.krb_password_changes.specs.declared.messages.version.Version.{Version}
 use Rattle.picky_asn1.specs.Bytes.{Bytes}
 use Rattle.krb_password_changes.specs.ChangeTable.{RulesRecord, judged_change}
 use Rattle.krb_password_changes.specs.declared.judge.Granted.{Granted}

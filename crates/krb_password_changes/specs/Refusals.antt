@@ -1,7 +1,7 @@
 -- How a request is refused.
 use Rattle.std.specs.Prelude.{Result, Ok, Err}
-use Rattle.kpasswd_messages.specs.declared.result_code.ResultCode.{ResultCode}
-use Rattle.kpasswd_messages.specs.declared.result_code.ResultCode.TheVariants.{Malformed, AuthError}
+use Rattle.krb_password_changes.specs.declared.messages.result_code.ResultCode.{ResultCode}
+use Rattle.krb_password_changes.specs.declared.messages.result_code.ResultCode.TheVariants.{Malformed, AuthError}
 use Rattle.krb_ap_requests.specs.declared.refusal.AdmitRefusal.{AdmitRefusal}
 use Rattle.krb_ap_requests.specs.declared.refusal.AdmitRefusal.TheVariants as admit
 use Rattle.krb_password_changes.specs.declared.refusal.ChangeRefusal.{ChangeRefusal}

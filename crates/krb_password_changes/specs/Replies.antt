@@ -21,12 +21,12 @@ use Rattle.krb_tickets.specs.Keys.{suite_of}
 use Rattle.krb_tickets.specs.Sealing.{Seals, sole_seals}
 use Rattle.krb_time.specs.SecondOf.{IsSecondOf}
 use Rattle.krb_time.specs.Units.{Micros}
-use Rattle.kpasswd_messages.specs.Frames.{IsFrame}
-use Rattle.kpasswd_messages.specs.ResultCodes.{result_number}
-use Rattle.kpasswd_messages.specs.Results.{result_octets}
-use Rattle.kpasswd_messages.specs.declared.result_code.ResultCode.{ResultCode}
-use Rattle.kpasswd_messages.specs.declared.result_code.ResultCode.TheVariants.{Success, HardError}
-use Rattle.kpasswd_messages.specs.declared.version.Version.TheVariants.{ChangePassword}
+use Rattle.krb_password_changes.specs.Frames.{IsFrame}
+use Rattle.krb_password_changes.specs.ResultCodes.{result_number}
+use Rattle.krb_password_changes.specs.Results.{result_octets}
+use Rattle.krb_password_changes.specs.declared.messages.result_code.ResultCode.{ResultCode}
+use Rattle.krb_password_changes.specs.declared.messages.result_code.ResultCode.TheVariants.{Success, HardError}
+use Rattle.krb_password_changes.specs.declared.messages.version.Version.TheVariants.{ChangePassword}
 use Rattle.microsoft_messages.specs.declared.enc_krb_priv_part.EncKrbPrivPartInner.{EncKrbPrivPartInner}
 use Rattle.microsoft_messages.specs.declared.krb_priv.KrbPrivInner.{KrbPrivInner}
 use Rattle.picky_asn1.specs.Bytes.{Bytes}

@@ -6,9 +6,9 @@ ghost use Rattle.krb_service.specs.Seen.{IsWindow};
 ghost use Rattle.krb_password_changes.specs.Answers.{IsAdmitting, IsAnswered};
 
 use crate::judge::{Granted, Rules};
+use crate::messages::{Version, read_frame};
 use crate::refusal::ChangeRefusal;
 use crate::setting::change_password;
-use kpasswd_messages::{Version, read_frame};
 use krb_account_texts::Line;
 use krb_service::{Admission, KeytabService, ReplyFields};
 use krb_time::Moment;

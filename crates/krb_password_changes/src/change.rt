@@ -3,7 +3,7 @@ ghost use Rattle.std.specs.Prelude.{◌≡◌, IfOk};
 ghost use Rattle.picky_asn1_der.specs.Found.{IsFound};
 ghost use Rattle.krb_password_changes.specs.Changes.{IsChange, client_of, is_same_target, own_change, target_of};
 
-use kpasswd_messages::Version;
+use crate::messages::Version;
 use krb_messages::data_types::{PrincipalName, Realm};
 use krb_messages::{is_same_name, is_same_realm};
 use krb_service::Admission;

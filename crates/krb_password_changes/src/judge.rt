@@ -7,9 +7,9 @@ ghost use Rattle.krb_password_changes.specs.Changes.{is_admin, may_set};
 ghost use Rattle.krb_password_changes.specs.Refusals.{IsJudged};
 
 use crate::change::{Target, client_of, is_same_target, read_change, target_of};
+use crate::messages::{ResultCode, Version};
 use crate::private::{open_private, read_krb_priv};
 use crate::refusal::ChangeRefusal;
-use kpasswd_messages::{ResultCode, Version};
 use krb_constants::ticket_flags;
 use krb_crypto::CipherSuite;
 use krb_messages::data_types::{PrincipalName, Realm};

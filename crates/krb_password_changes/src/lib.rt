@@ -18,6 +18,7 @@ mod answer;
 mod change;
 mod judge;
 pub mod laws;
+pub mod messages;
 mod private;
 mod refusal;
 mod reply;

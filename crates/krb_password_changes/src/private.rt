@@ -5,9 +5,9 @@ ghost use Rattle.krb_password_changes.specs.ChangeTable.{headed, krb_priv_in, nu
 ghost use Rattle.krb_password_changes.specs.Privates.{IsKrbPriv, IsPrivatePart, is_first, private_key};
 ghost use Rattle.krb_password_changes.specs.Refusals.{IsJudged};
 
+use crate::messages::ResultCode;
 use crate::refusal::ChangeRefusal;
 use decision_tables::if_passed;
-use kpasswd_messages::ResultCode;
 use krb_constants::key_usages;
 use krb_constants::types::{KERBEROS_VERSION, KRB_PRIV};
 use krb_crypto::Key;

@@ -3,7 +3,7 @@ ghost use Rattle.std.specs.Prelude.{◌≡◌};
 ghost use Rattle.krb_password_changes.specs.Refusals.{refused_as};
 ghost use Rattle.krb_password_changes.specs.declared.refusal.ChangeRefusal.TheVariants.{Memory, Refused};
 
-use kpasswd_messages::ResultCode;
+use crate::messages::ResultCode;
 use krb_ap_requests::AdmitRefusal;
 use std::alloc::AllocError;
 use thiserror::Error;

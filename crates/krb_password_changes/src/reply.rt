@@ -11,9 +11,9 @@ ghost use Rattle.krb_password_changes.specs.Replies.{AreEnoughForChange, IsError
 
 use crate::change::Target;
 use crate::judge::Granted;
+use crate::messages::{FrameRefusal, ResultCode, Version, frame_bytes, result_bytes};
 use crate::private::private_key;
 use crate::refusal::ChangeRefusal;
-use kpasswd_messages::{FrameRefusal, ResultCode, Version, frame_bytes, result_bytes};
 use krb_constants::error_codes::KRB_ERR_GENERIC;
 use krb_constants::key_usages;
 use krb_constants::types::{KERBEROS_VERSION, KRB_ERROR_MSG_TYPE, KRB_PRIV};

@@ -8,8 +8,8 @@ ghost use Rattle.krb_password_changes.specs.NewPasswords.{Changes, HasPassword};
 ghost use Rattle.krb_password_changes.specs.Refusals.{IsJudged};
 
 use crate::judge::{Granted, Rules, judge_private, suite_of_rules};
+use crate::messages::{ResultCode, Version};
 use crate::refusal::ChangeRefusal;
-use kpasswd_messages::{ResultCode, Version};
 use krb_account_texts::{Line, change_key};
 use krb_crypto::{CipherSuite, Key};
 use krb_service::Admission;

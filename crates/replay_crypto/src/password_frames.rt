@@ -1,6 +1,6 @@
 //! Frames and results of the exchange that changes a password. `data/password_frames.py` says what the rows are.
 
-use kpasswd_messages::{
+use krb_password_changes::messages::{
     FrameRefusal, ResultCode, Version, frame_bytes, read_frame, read_result, result_bytes,
 };
 use std::alloc::Global;

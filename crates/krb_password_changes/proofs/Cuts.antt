@@ -4,8 +4,8 @@ use Rattle.std.proofs.lemmas.List.{length-append, length-drop, length-take-le, t
 use Rattle.byte_streams.specs.Parts.{part, Stands}
 use Rattle.byte_streams.specs.Numbers.{be16, be16_at}
 use Rattle.byte_streams.proofs.NumberLaws.{length-be16, be16-again}
-use Rattle.kpasswd_messages.specs.Frames.{frame_octets}
-use Rattle.kpasswd_messages.specs.Results.{result_octets}
+use Rattle.krb_password_changes.specs.Frames.{frame_octets}
+use Rattle.krb_password_changes.specs.Results.{result_octets}
 
 -- what stands at a place is followed by what is behind it
 behind : (place size next : ℕ) (bytes whole : List ℕ) → length bytes ≡ size → place + size ≡ next → Stands (part place bytes) whole → drop place whole ≡ bytes ++ drop next whole

@@ -1,8 +1,8 @@
 use Rattle.std.proofs.Common.{◌≡◌, ◌+◌, ◌≤◌, ◌∙◌, ℕ, length, take, drop, ap, arith}
 use Rattle.byte_streams.specs.Numbers.{be16_at}
-use Rattle.kpasswd_messages.specs.Versions.{version_number}
-use Rattle.kpasswd_messages.proofs.Cuts.{frame-read}
-use Rattle.kpasswd_messages.proofs.frame.read_frame.Goals as goal
+use Rattle.krb_password_changes.specs.Versions.{version_number}
+use Rattle.krb_password_changes.proofs.Cuts.{frame-read}
+use Rattle.krb_password_changes.proofs.messages.frame.read_frame.Goals as goal
 
 pub returns-clause-frame : goal.returns-clause-frame
 returns-clause-frame c =

@@ -1,9 +1,9 @@
 //! What a reply carries.
 ghost use Rattle.std.specs.Prelude.{◌≡◌, ◌<◌, length, IfOk, MatchOption};
-ghost use Rattle.kpasswd_messages.specs.ResultCodes.{result_number};
-ghost use Rattle.kpasswd_messages.specs.Results.{result_octets};
+ghost use Rattle.krb_password_changes.specs.ResultCodes.{result_number};
+ghost use Rattle.krb_password_changes.specs.Results.{result_octets};
 
-use crate::result_code::ResultCode;
+use crate::messages::result_code::ResultCode;
 use byte_streams::{u16_be, u16_be_bytes};
 use std::alloc::{AllocError, Global};
 

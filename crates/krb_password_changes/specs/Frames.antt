@@ -3,13 +3,13 @@ use Rattle.std.specs.Prelude.{◌≡◌, ℕ, ◌+◌, ◌≤◌, ◌<◌, ◌^�
 use Rattle.byte_streams.specs.Numbers.{be16, be16_at}
 use Rattle.byte_streams.specs.Parts.{part, Stands}
 use Rattle.decision_tables.specs.Tables.{Table, done, need, refuse}
-use Rattle.kpasswd_messages.specs.declared.frame.FrameRefusal.{FrameRefusal}
-use Rattle.kpasswd_messages.specs.declared.frame.FrameRefusal.TheVariants.{Memory, TooLong}
-use Rattle.kpasswd_messages.specs.declared.frame.TheConstants.{FRONT_LEN}
-use Rattle.kpasswd_messages.specs.declared.result_code.ResultCode.{ResultCode}
-use Rattle.kpasswd_messages.specs.declared.result_code.ResultCode.TheVariants.{Malformed, BadVersion}
-use Rattle.kpasswd_messages.specs.declared.version.Version.{Version}
-use Rattle.kpasswd_messages.specs.Versions.{version_number, version_of}
+use Rattle.krb_password_changes.specs.declared.messages.frame.FrameRefusal.{FrameRefusal}
+use Rattle.krb_password_changes.specs.declared.messages.frame.FrameRefusal.TheVariants.{Memory, TooLong}
+use Rattle.krb_password_changes.specs.declared.messages.frame.TheConstants.{FRONT_LEN}
+use Rattle.krb_password_changes.specs.declared.messages.result_code.ResultCode.{ResultCode}
+use Rattle.krb_password_changes.specs.declared.messages.result_code.ResultCode.TheVariants.{Malformed, BadVersion}
+use Rattle.krb_password_changes.specs.declared.messages.version.Version.{Version}
+use Rattle.krb_password_changes.specs.Versions.{version_number, version_of}
 
 -- the length of the whole frame, the version, the length of the AP message, the AP message, and the KRB-PRIV or what is in its place
 abbrev pub frame_octets : ℕ → List ℕ → List ℕ → List ℕ

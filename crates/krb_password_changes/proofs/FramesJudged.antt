@@ -4,13 +4,13 @@ use Rattle.std.proofs.lemmas.Bool.Decides.{nat_tests, Decides-eqb}
 use Rattle.byte_streams.specs.Numbers.{be16_at}
 use Rattle.decision_tables.specs.One.{same_parts}
 use Rattle.decision_tables.specs.Tables.{done, need, refuse}
-use Rattle.kpasswd_messages.specs.declared.result_code.ResultCode.{ResultCode}
-use Rattle.kpasswd_messages.specs.declared.result_code.ResultCode.TheVariants.{Malformed, BadVersion}
-use Rattle.kpasswd_messages.specs.declared.version.Version.{Version}
-use Rattle.kpasswd_messages.specs.declared.version.Version.TheVariants.{ChangePassword, SetPassword}
-use Rattle.kpasswd_messages.specs.Versions.{version_number, version_of, version_again}
-use Rattle.kpasswd_messages.specs.Frames.{IsFrame, frame_table}
-use Rattle.kpasswd_messages.proofs.Cuts.{HasParts, frame-parts}
+use Rattle.krb_password_changes.specs.declared.messages.result_code.ResultCode.{ResultCode}
+use Rattle.krb_password_changes.specs.declared.messages.result_code.ResultCode.TheVariants.{Malformed, BadVersion}
+use Rattle.krb_password_changes.specs.declared.messages.version.Version.{Version}
+use Rattle.krb_password_changes.specs.declared.messages.version.Version.TheVariants.{ChangePassword, SetPassword}
+use Rattle.krb_password_changes.specs.Versions.{version_number, version_of, version_again}
+use Rattle.krb_password_changes.specs.Frames.{IsFrame, frame_table}
+use Rattle.krb_password_changes.proofs.Cuts.{HasParts, frame-parts}
 
 -- the rows, over their tests
 passed : (few sized outside : Bool) (found : Option Version) (version : Version) → few ≡ false → sized ≡ true → found ≡ Some version → outside ≡ false

@@ -1,8 +1,8 @@
 -- The result codes (RFC 3244, section 2).
 use Rattle.std.specs.Prelude.{◌≡◌, ℕ, nat_eq, if◌then◌else◌, List, [], ◌∷◌, refl}
-use Rattle.kpasswd_messages.specs.declared.result_code.TheConstants.{KRB5_KPASSWD_SUCCESS, KRB5_KPASSWD_MALFORMED, KRB5_KPASSWD_HARDERROR, KRB5_KPASSWD_AUTHERROR, KRB5_KPASSWD_SOFTERROR, KRB5_KPASSWD_ACCESSDENIED, KRB5_KPASSWD_BAD_VERSION, KRB5_KPASSWD_INITIAL_FLAG_NEEDED, KRB5_KPASSWD_OTHER}
-use Rattle.kpasswd_messages.specs.declared.result_code.ResultCode.{ResultCode}
-use Rattle.kpasswd_messages.specs.declared.result_code.ResultCode.TheVariants.{Success, Malformed, HardError, AuthError, SoftError, AccessDenied, BadVersion, InitialFlagNeeded, Other}
+use Rattle.krb_password_changes.specs.declared.messages.result_code.TheConstants.{KRB5_KPASSWD_SUCCESS, KRB5_KPASSWD_MALFORMED, KRB5_KPASSWD_HARDERROR, KRB5_KPASSWD_AUTHERROR, KRB5_KPASSWD_SOFTERROR, KRB5_KPASSWD_ACCESSDENIED, KRB5_KPASSWD_BAD_VERSION, KRB5_KPASSWD_INITIAL_FLAG_NEEDED, KRB5_KPASSWD_OTHER}
+use Rattle.krb_password_changes.specs.declared.messages.result_code.ResultCode.{ResultCode}
+use Rattle.krb_password_changes.specs.declared.messages.result_code.ResultCode.TheVariants.{Success, Malformed, HardError, AuthError, SoftError, AccessDenied, BadVersion, InitialFlagNeeded, Other}
 
 abbrev pub result_number : ResultCode → ℕ
 result_number Success = KRB5_KPASSWD_SUCCESS

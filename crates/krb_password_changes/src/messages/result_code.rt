@@ -1,6 +1,6 @@
 //! Result codes.
 ghost use Rattle.std.specs.Prelude.{◌≡◌};
-ghost use Rattle.kpasswd_messages.specs.ResultCodes.{code_of, result_number};
+ghost use Rattle.krb_password_changes.specs.ResultCodes.{code_of, result_number};
 
 use thiserror::Error;
 

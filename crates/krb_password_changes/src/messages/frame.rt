@@ -1,13 +1,13 @@
 //! Frames of requests and replies.
 ghost use Rattle.std.specs.Prelude.{◌≡◌, ◌+◌, ◌<◌, ◌≤◌, ◌^◌, ◌++◌, ℕ, List, Err, Ok, length, IfErr, IfOk, MatchOption, MatchResult};
 ghost use Rattle.byte_streams.specs.Numbers.{be16};
-ghost use Rattle.kpasswd_messages.specs.Frames.{frame_table, IsFrame, IsHeaded, IsUnwritten};
-ghost use Rattle.kpasswd_messages.specs.Versions.{version_number};
-ghost use Rattle.kpasswd_messages.specs.declared.frame.FrameRefusal.TheVariants as refusal;
-ghost use Rattle.kpasswd_messages.specs.declared.version.Version.{Version};
+ghost use Rattle.krb_password_changes.specs.Frames.{frame_table, IsFrame, IsHeaded, IsUnwritten};
+ghost use Rattle.krb_password_changes.specs.Versions.{version_number};
+ghost use Rattle.krb_password_changes.specs.declared.messages.frame.FrameRefusal.TheVariants as refusal;
+ghost use Rattle.krb_password_changes.specs.declared.messages.version.Version.{Version};
 
-use crate::result_code::ResultCode;
-use crate::version::Version;
+use crate::messages::result_code::ResultCode;
+use crate::messages::version::Version;
 use byte_streams::{u16_be, u16_be_bytes};
 use std::alloc::{AllocError, Global};
 use thiserror::Error;
@@ -70,7 +70,7 @@ fn judge_frame(message: &[u8]) -> Result<Version, ResultCode>
 }
 
 /// The version and the parts of a message, or the code by which it is refused. What is refused is no frame.
-#[tactic(auto, using(crate::proofs::Judged::not_a_frame))]
+#[tactic(auto, using(crate::proofs::FramesJudged::not_a_frame))]
 pub fn read_frame(message: &[u8]) -> Result<Frame<'_>, ResultCode>
     ensures table { MatchResult result
         (λ frame. (frame_table message.now).gives (Ok frame.version))

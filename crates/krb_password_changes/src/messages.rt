@@ -8,7 +8,6 @@
 //! row of `frame_table` that refuses it. `frame_bytes` writes the frame, or refuses one of more than 65,535 octets. A frame has one version
 //! and one pair of parts, and what is written is read again (laws `one_frame`, `written_is_read`). `result_bytes` and `read_result` write
 //! and read what a reply carries. A `ResultCode` prints as its name.
-#![tactic(auto)]
 
 mod frame;
 mod laws;

@@ -1,9 +1,9 @@
 -- The versions of the exchange that changes a password.
 use Rattle.std.specs.Prelude.{◌≡◌, ℕ, nat_eq, if◌then◌else◌, Option, None, Some, refl}
 use Rattle.krb_constants.specs.declared.krb_priv.TheConstants.{PROTOCOL_VERSION}
-use Rattle.kpasswd_messages.specs.declared.version.TheConstants.{SET_PASSWORD_VERSION}
-use Rattle.kpasswd_messages.specs.declared.version.Version.{Version}
-use Rattle.kpasswd_messages.specs.declared.version.Version.TheVariants.{ChangePassword, SetPassword}
+use Rattle.krb_password_changes.specs.declared.messages.version.TheConstants.{SET_PASSWORD_VERSION}
+use Rattle.krb_password_changes.specs.declared.messages.version.Version.{Version}
+use Rattle.krb_password_changes.specs.declared.messages.version.Version.TheVariants.{ChangePassword, SetPassword}
 
 -- The number of a version: 1, or 0xFF80 (RFC 3244, section 2).
 abbrev pub version_number : Version → ℕ

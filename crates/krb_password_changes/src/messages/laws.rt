@@ -1,8 +1,8 @@
 //! What is written is read again, as nothing else.
 ghost use Rattle.std.specs.Prelude.{◌≡◌, ℕ, ◌<◌, ◌^◌, List, Ok};
-ghost use Rattle.kpasswd_messages.specs.Frames.{frame_table, IsFrame};
-ghost use Rattle.kpasswd_messages.specs.Results.{result_octets};
-ghost use Rattle.kpasswd_messages.specs.declared.version.Version.{Version};
+ghost use Rattle.krb_password_changes.specs.Frames.{frame_table, IsFrame};
+ghost use Rattle.krb_password_changes.specs.Results.{result_octets};
+ghost use Rattle.krb_password_changes.specs.declared.messages.version.Version.{Version};
 
 /// The law that no row refuses a frame. It does nothing.
 pub fn written_is_read()

@@ -1,7 +1,7 @@
 use Rattle.std.proofs.Common.{arith}
-use Rattle.kpasswd_messages.specs.Versions.{version_number}
-use Rattle.kpasswd_messages.proofs.Cuts.{frame-made}
-use Rattle.kpasswd_messages.proofs.frame.frame_bytes.Goals as goal
+use Rattle.krb_password_changes.specs.Versions.{version_number}
+use Rattle.krb_password_changes.proofs.Cuts.{frame-made}
+use Rattle.krb_password_changes.proofs.messages.frame.frame_bytes.Goals as goal
 
 pub returns : goal.returns
 returns c =

@@ -1,6 +1,6 @@
 //! The versions of requests.
 ghost use Rattle.std.specs.Prelude.{◌≡◌, IfSome};
-ghost use Rattle.kpasswd_messages.specs.Versions.{version_number, version_of};
+ghost use Rattle.krb_password_changes.specs.Versions.{version_number, version_of};
 
 use krb_constants::krb_priv::PROTOCOL_VERSION;
 

@@ -1,4 +1,0 @@
-pub mod Versions
-pub mod ResultCodes
-pub mod Frames
-pub mod Results
