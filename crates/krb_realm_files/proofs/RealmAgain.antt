@@ -1,7 +1,8 @@
 -- The realm's record is read as it was written.
-use Rattle.std.proofs.Common.{◌≡◌, ◌==◌, ℕ, ◌+◌, ◌*◌, ◌/◌, ◌%◌, ◌^◌, ◌<◌, ◌≤◌, List, [], ◌∷◌, ◌++◌, length, length-append, drop, take, slice_index, Option, None, Some, refl, ap, sym, subst, ◌∙◌, arith, le-ltb, eq-eqb, ◌&&◌, nat_le, true, false, Bool, if◌then◌else◌}
+use Rattle.std.proofs.Common.{◌≡◌, ◌==◌, ℕ, ◌+◌, ◌-◌, ◌*◌, ◌/◌, ◌%◌, ◌^◌, ◌<◌, ◌≤◌, List, [], ◌∷◌, ◌++◌, length, length-append, length-drop, drop, take, slice_index, Option, None, Some, refl, ap, sym, subst, ◌∙◌, arith, le-ltb, eq-eqb, ◌&&◌, nat_le, true, false, Bool, if◌then◌else◌}
 use Rattle.std.proofs.Math.Seq.{drop-append-add, drop-append_seam, take-append_seam}
 use Rattle.std.proofs.lemmas.Bool.{le-leb, and_parts, leb-true}
+use Rattle.std.proofs.lemmas.List.{take_all}
 use Rattle.byteorder.specs.Numbers.{little_number-reads_back}
 use Rattle.byte_streams.specs.Numbers.{le32, le32_at}
 use Rattle.krb_realm_accounts.specs.Names.{is_realm_name}
@@ -128,6 +129,19 @@ unfolding realm_in
 whole octets name own skew lifetime size policy enough version sized flags first second rest part =
     let some : 17 ≤ length octets = omega (arith, enough) in
     rw (le-ltb (length octets) 17 some, eq-eqb (slice_index octets 0) 1 version, flags, sized, le-ltb (length octets) (17 + size) enough, first, second, rest, part) refl
+
+-- A record is read part by part: its settings, what logins by certificate are answered by, and its name.
+pub by_parts : (octets : List ℕ) (size counted left : ℕ) (settings : SettingsRecord) (own : Option (List ℕ)) → 17 ≤ length octets → size ≤ length octets - 17
+    → slice_index octets 0 ≡ 1 → size ≡ le32_at 9 octets → counted ≡ size → length octets - (17 + size) ≤ left
+    → Some settings ≡ settings_of (le32_at 1 octets) (le32_at 5 octets) (le32_at 13 octets) → own ≡ pkinit_in (take counted (drop 17 octets))
+    → realm_in octets ≡ named_realm (take left (drop (17 + size) octets)) (Some settings) own
+by_parts octets size counted left settings own enough room version sized same all set part =
+    let rest : List ℕ = drop (17 + size) octets in
+    let middle : List ℕ = take size (drop 17 octets) in
+    let name : take left rest ≡ rest = take_all left rest (omega (arith, all, length-drop (17 + size) octets)) in
+    whole octets (take left rest) middle (le32_at 1 octets) (le32_at 5 octets) size (le32_at 13 octets) (omega arith) version (sym sized) refl refl refl (sym name) refl
+    ∙ ap (λ (read : Option SettingsRecord). named_realm (take left rest) read (pkinit_in middle)) (sym set)
+    ∙ ap (λ (read : Option (List ℕ)). named_realm (take left rest) (Some settings) read) (ap (λ (n : ℕ). pkinit_in (take n (drop 17 octets))) (sym same) ∙ sym part)
 
 pub realm_as_written : (realm : RealmParameters) → is_recorded realm ≡ true → AreSettings realm.settings.skew realm.settings.lifetime → realm_in (realm_bytes realm) ≡ Some realm
 unfolding realm_bytes le32 le32_at
