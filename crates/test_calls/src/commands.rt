@@ -1,6 +1,5 @@
 //! What programs make of the list of locks, of links and of a configuration.
 
-use crate::holding::holds;
 use krb_commands::{default_realm_in, folder_of, holder_in, linked_path, listed_file};
 use std::alloc::Global;
 
@@ -13,11 +12,11 @@ const WAITING: &str = "1: -> FLOCK  ADVISORY  WRITE 4713 fe:00:2310181 0 EOF";
 
 #[test]
 fn holders(rt: HostRuntime) {
-    holds!(rt; holder_in(HELD, "fe:00:2310181") == Some(4711));
-    holds!(rt; holder_in(HELD, "fe:01:2310181").is_none());
-    holds!(rt; holder_in(OF_RECORDS, "fe:00:2310181").is_none());
-    holds!(rt; holder_in(WAITING, "fe:00:2310181").is_none());
-    holds!(rt; holder_in("", "fe:00:2310181").is_none());
+    assert!(rt; holder_in(HELD, "fe:00:2310181") == Some(4711));
+    assert!(rt; holder_in(HELD, "fe:01:2310181").is_none());
+    assert!(rt; holder_in(OF_RECORDS, "fe:00:2310181").is_none());
+    assert!(rt; holder_in(WAITING, "fe:00:2310181").is_none());
+    assert!(rt; holder_in("", "fe:00:2310181").is_none());
 }
 
 fn is_listed(alloc: Global, device: u64, inode: u64, file: &str) -> bool {
@@ -30,8 +29,8 @@ fn is_listed(alloc: Global, device: u64, inode: u64, file: &str) -> bool {
 // makedev(3): a minor number of more than eight bits lies around the major one.
 #[test]
 fn devices(rt: HostRuntime) {
-    holds!(rt; is_listed(rt.alloc(), 0xfe00, 2_310_181, "fe:00:2310181"));
-    holds!(rt; is_listed(rt.alloc(), 0x0010_0801, 7, "08:101:7"));
+    assert!(rt; is_listed(rt.alloc(), 0xfe00, 2_310_181, "fe:00:2310181"));
+    assert!(rt; is_listed(rt.alloc(), 0x0010_0801, 7, "08:101:7"));
 }
 
 fn leads_to(alloc: Global, link: &str, target: &str, place: &str) -> bool {
@@ -43,18 +42,18 @@ fn leads_to(alloc: Global, link: &str, target: &str, place: &str) -> bool {
 
 #[test]
 fn links(rt: HostRuntime) {
-    holds!(rt; leads_to(rt.alloc(), "a/link", "accounts", "a/accounts"));
-    holds!(rt; leads_to(rt.alloc(), "a/link", "../accounts", "a/../accounts"));
-    holds!(rt; leads_to(rt.alloc(), "a/link", "/accounts", "/accounts"));
-    holds!(rt; leads_to(rt.alloc(), "/link", "accounts", "/accounts"));
-    holds!(rt; leads_to(rt.alloc(), "link", "accounts", "accounts"));
+    assert!(rt; leads_to(rt.alloc(), "a/link", "accounts", "a/accounts"));
+    assert!(rt; leads_to(rt.alloc(), "a/link", "../accounts", "a/../accounts"));
+    assert!(rt; leads_to(rt.alloc(), "a/link", "/accounts", "/accounts"));
+    assert!(rt; leads_to(rt.alloc(), "/link", "accounts", "/accounts"));
+    assert!(rt; leads_to(rt.alloc(), "link", "accounts", "accounts"));
 }
 
 #[test]
 fn folders(rt: HostRuntime) {
-    holds!(rt; folder_of("/accounts") == "/");
-    holds!(rt; folder_of("accounts") == ".");
-    holds!(rt; folder_of("a/b/c") == "a/b");
+    assert!(rt; folder_of("/accounts") == "/");
+    assert!(rt; folder_of("accounts") == ".");
+    assert!(rt; folder_of("a/b/c") == "a/b");
 }
 
 // A configuration as Debian's krb5-config writes it, with another section and a comment in front.
@@ -70,8 +69,20 @@ fn names(alloc: Global, text: &str, realm: Option<&str>) -> bool {
 
 #[test]
 fn default_realms(rt: HostRuntime) {
-    holds!(rt; names(rt.alloc(), STOCK, Some("EXAMPLE.COM")));
-    holds!(rt; names(rt.alloc(), "[libdefaults]\r\ndefault_realm=A\r\n", Some("A")));
-    holds!(rt; names(rt.alloc(), "[libdefaults]\ndefault_realm =\ndefault_realm\n", None));
-    holds!(rt; names(rt.alloc(), "[realms]\ndefault_realm = A\n", None));
+    assert!(rt; names(rt.alloc(), STOCK, Some("EXAMPLE.COM")));
+    assert!(rt;
+        names(
+            rt.alloc(),
+            "[libdefaults]\r\ndefault_realm=A\r\n",
+            Some("A")
+        )
+    );
+    assert!(rt;
+        names(
+            rt.alloc(),
+            "[libdefaults]\ndefault_realm =\ndefault_realm\n",
+            None
+        )
+    );
+    assert!(rt; names(rt.alloc(), "[realms]\ndefault_realm = A\n", None));
 }
