@@ -105,7 +105,7 @@ fn elements_of(data: &Option<AuthorizationData>) -> &[AuthorizationDataInner]
 
 /// Returns the PAC of the ticket by which a client was admitted. `key` is the service's key, under which the ticket was encrypted.
 ///
-/// A KDC that knows the key made the PAC, for this client at this authtime. The signature of the KDC's own key isn't judged.
+/// It has the server signature of the key, and names this client at this authtime. The signature of the KDC's own key isn't judged.
 pub fn verified_pac(
     alloc: Global,
     admission: &Admission,
