@@ -12,9 +12,10 @@ BLOCK = 4_096  # octets of a name's block, at most
 REALM_KEY = b"\xff"
 KEY_SIZES = {16: 24, 17: 16, 18: 32, 19: 16, 20: 32}  # by the numbers of the suites
 SKEW_LIMIT, LIFETIME_LIMIT = 86_400, 31_536_000
+RESERVED, RENEWABLE_SECOND = 8, 16  # what a policy's number never has, and what it has for each second of the renewable life
 
 Account = collections.namedtuple("Account", "suite key kvno salt")  # salt: octets or None
-Realm = collections.namedtuple("Realm", "name skew lifetime policy", defaults=[0])  # policy: 1 limits triple DES
+Realm = collections.namedtuple("Realm", "name skew lifetime policy", defaults=[0])  # policy: its number
 
 
 class Damaged(Exception):
@@ -144,7 +145,8 @@ def realm_in(data):
         raise Damaged
     version, skew, lifetime, pkinit, policy = struct.unpack("<BIIII", data[:17])
     name = data[17:]
-    if version != VERSION or pkinit or policy > 1 or skew > SKEW_LIMIT or not 1 <= lifetime <= LIFETIME_LIMIT:
+    is_policy = not policy & RESERVED and policy // RENEWABLE_SECOND <= LIFETIME_LIMIT
+    if version != VERSION or pkinit or not is_policy or skew > SKEW_LIMIT or not 1 <= lifetime <= LIFETIME_LIMIT:
         raise Damaged
     if not 1 <= len(name) <= 255 or max(name) > 127:
         raise Damaged
