@@ -6,15 +6,18 @@
 //! login takes 64, and MOMENT is `now` or `YYYYMMDDHHMMSSZ`. It serves the contexts of its stream in turn, and remembers each login until it
 //! ends. Clocks may differ by 300 seconds. With `subkey` a subkey of its own protects each context whose initiator asks for an AP-REP.
 //!
-//! It says on standard error who logged in. The status is 0 at the end of a stream with a login. Else it is 1, after a line
-//! with the refusal's name.
+//! It says on standard error who logged in. Where the ticket has a PAC that a key of the service verifies, lines behind it have the user's SID
+//! and name, and each group's SID with its attributes, a decimal number (MS-PAC, sections 2.2.1 and 2.5). Another PAC is named with its
+//! refusal, and the login stands. The status is 0 at the end of a stream with a login. Else it is 1, after a line with the refusal's name.
 #![tactic(auto)]
 
 mod answer;
 mod frame;
 mod keytab_file;
 mod server;
+mod service_keys;
 mod setup;
+mod user;
 
 use anyhow::bail;
 use krb_commands::printable_of;

@@ -4,11 +4,14 @@ use crate::PROGRAM;
 use crate::answer::{CONTEXT, CONTEXT_NEXT, NOOP, answer_of, is_set};
 use crate::frame::{Frame, read_frame, write_frame};
 use crate::keytab_file::KeytabFile;
+use crate::service_keys::ServiceKeys;
+use crate::user::{Ticket, say_user};
 use anyhow::{Context as _, bail};
 use byte_streams::{Sink, Source, read_full};
 use gss_acceptor::{Accepted, Acceptor, Continuation, Established, Negotiation};
 use gss_contexts::Context;
 use krb_commands::PrintableName;
+use krb_crypto::Key;
 use krb_programs::say;
 use krb_service::KeytabService;
 use krb_time::{Moment, now};
@@ -34,6 +37,8 @@ pub(crate) struct Server<K: Source + Drop> {
     pub(crate) acceptor: Acceptor<KeytabService>,
     /// Its keytab.
     pub(crate) keytab: KeytabFile,
+    /// Its keys, which verify PACs.
+    pub(crate) keys: ServiceKeys,
     /// The random octets.
     pub(crate) words: K,
     /// The moments.
@@ -52,7 +57,6 @@ impl<K: Source + Drop> Server<K> {
             }
         };
         let replaced = self.acceptor.replace_keys(rt.alloc(), &keytab);
-        drop(keytab);
         if let Err(refusal) = replaced {
             let path = self.keytab.path();
             say(
@@ -60,7 +64,10 @@ impl<K: Source + Drop> Server<K> {
                 PROGRAM,
                 format_args!("{path}: {refusal}: the keys stay"),
             );
+        } else if self.keys.replace(rt.alloc(), &keytab).is_err() {
+            say(rt, PROGRAM, "out of memory: the keys that verify PACs stay");
         }
+        drop(keytab);
     }
 
     // Takes an initiator's first token.
@@ -153,7 +160,9 @@ fn establish<K: Source + Drop, R: Source, W: Sink>(
     let mut accepted = server.accept(rt, &token)?;
     for _ in 0..u64::MAX {
         accepted = match accepted {
-            Accepted::Established(established) => return begin(rt, writer, established),
+            Accepted::Established(established) => {
+                return begin(rt, server.keys.as_slice(), writer, established);
+            }
             Accepted::ContinueNeeded(continuation) => {
                 go_on(rt, server, reader, writer, continuation)?
             }
@@ -184,15 +193,18 @@ fn context_token<R: Source>(alloc: Global, reader: &mut R) -> anyhow::Result<Vec
     }
 }
 
-// Sends the reply, if there is one, and says who logged in.
+// Sends the reply, if there is one, and says who logged in, with the user and the groups of a verified PAC.
 fn begin<W: Sink>(
     rt: &HostRuntime,
+    keys: &[Key],
     writer: &mut W,
     established: Established,
 ) -> anyhow::Result<Context> {
     let Established {
         client,
         realm,
+        authtime,
+        authorization_data,
         context,
         reply,
         ..
@@ -206,6 +218,14 @@ fn begin<W: Sink>(
     };
     // The login stands where standard error takes nothing.
     let _ = eprintln!(rt; "{name} logged in");
+    if let Some(elements) = &authorization_data {
+        let ticket = Ticket {
+            client: &client,
+            authtime,
+            elements: elements.as_slice(),
+        };
+        say_user(rt, keys, &ticket);
+    }
     Ok(context)
 }
 

@@ -2,6 +2,7 @@
 
 use crate::keytab_file::KeytabFile;
 use crate::server::{Server, Time};
+use crate::service_keys::ServiceKeys;
 use anyhow::{Context, bail};
 use byte_streams::Watched;
 use gss_acceptor::{Acceptor, AcceptorTerms};
@@ -35,11 +36,12 @@ pub(crate) fn server_of(
     let terms = terms_of(&further).context("expected: subkey or nothing after the service")?;
     let time = time_of(moment.as_str()).context("no moment: expected now or YYYYMMDDHHMMSSZ")?;
     let mut keytab = KeytabFile::new(keytab);
-    let service = service_in(rt, &mut keytab, service.as_str())?;
+    let (service, keys) = service_in(rt, &mut keytab, service.as_str())?;
     let words = fs::open(rt, words.as_str())?;
     Ok(Server {
         acceptor: Acceptor::new(service, terms),
         keytab,
+        keys,
         words: Watched::new(words),
         time,
     })
@@ -68,12 +70,12 @@ fn time_of(text: &str) -> Option<Time> {
     Some(Time::Fixed(moment))
 }
 
-// The service of this name, with its keys in a keytab.
+// The service of this name, with its keys in a keytab, and these keys.
 fn service_in(
     rt: &HostRuntime,
     keytab_file: &mut KeytabFile,
     name: &str,
-) -> anyhow::Result<KeytabService> {
+) -> anyhow::Result<(KeytabService, ServiceKeys)> {
     let keytab = match keytab_file.read(rt) {
         Ok(keytab) => keytab,
         Err(stop) => bail!("{stop}"),
@@ -87,9 +89,16 @@ fn service_in(
     }
 }
 
-fn service_of(alloc: Global, keytab: &Keytab, name: &str) -> anyhow::Result<KeytabService> {
+fn service_of(
+    alloc: Global,
+    keytab: &Keytab,
+    name: &str,
+) -> anyhow::Result<(KeytabService, ServiceKeys)> {
     let PrincipalText { components, realm } = principal_of_text(alloc, name)?;
     let realm = realm.context("expected its realm after a @")?;
     let made = KeytabService::new(alloc, &realm, &components, keytab, SKEW);
-    Ok(made?)
+    let service = made?;
+    let mut keys = ServiceKeys::new(alloc, realm, components);
+    keys.replace(alloc, keytab)?;
+    Ok((service, keys))
 }
