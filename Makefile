@@ -26,7 +26,7 @@ messages: kit-there ## read, change and write messages through picky_krb, withou
 certificate: kit-there ## read a certificate, without proof: one minute
 	cd crates/example_certificate && $(TRY) --data certificate.der=data/certificate.der </dev/null
 
-test: kit-there $(if $(CRATE),crate-named,listener imports programs) ## run every test and program without proof, or those of one crate: make test CRATE=test_calls; slow rows too: ROWS=all
+test: kit-there $(if $(CRATE),crate-named,listener imports programs) ## run every test and program without proof, or those of one crate: make test CRATE=test_encodings; slow rows too: ROWS=all
 	RT="$(RT)" ROWS="$(ROWS)" tools/test $(CRATE)
 
 listener: ## test krb_listen and krb_connect of bridges/, over stubs: a minute

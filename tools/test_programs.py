@@ -288,7 +288,7 @@ class Install(Copy):
 
     def test_what_make_test_says_before_it_starts(self):
         plan = r"^test: 1 build, \d at once, some \d+ processor minutes: 0 as measured here, 1 by their lines of source$"
-        for words, said_before in ("krb_kdc_exchanges", ["test: krb_kdc_exchanges is tried by replay_"]), ("test_calls", []):
+        for words, said_before in ("krb_kdc_exchanges", ["test: krb_kdc_exchanges is tried by replay_"]), ("test_encodings", []):
             wrote, _ = self.make("test", f"CRATE={words}", status=2)  # the stub runs no tests
             for line, start in zip(wrote, said_before):
                 self.assertTrue(line.startswith(start), line)

@@ -1,6 +1,6 @@
 //! Tests of single calls: worked values of encryption, where no line of `replay_crypto` makes the call, and worked keys of X.509.
 //! Streams over whole, slow and failing devices. Worked values of moments, names, accounts, what services remember, and what commands
-//! make of texts. `encodings`: worked values of DER, of its leaf types and of binary layouts.
+//! make of texts.
 #![tactic(auto)]
 
 #[cfg(test)]
@@ -15,7 +15,6 @@ mod curves;
 mod des;
 #[cfg(test)]
 mod digests;
-mod encodings;
 #[cfg(test)]
 mod moments;
 #[cfg(test)]

@@ -1,6 +1,6 @@
 //! Readers and writers: what follows a value, limits, and devices that cut and fail.
-use crate::encodings::sample::{LONG_SAMPLE, SHORT_SAMPLE, Sample, sample_of};
-use crate::encodings::spelling::{fault_of, front_fault_of};
+use crate::sample::{LONG_SAMPLE, SHORT_SAMPLE, Sample, sample_of};
+use crate::spelling::{fault_of, front_fault_of};
 use byte_streams::{Sink, Source};
 use picky_asn1_der::{
     Asn1DerError, Deserialize, Deserializer, RawElement, Serialize, Serializer, from_bytes,

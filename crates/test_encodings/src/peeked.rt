@@ -1,5 +1,5 @@
 //! Octets that are looked at, a SEQUENCE that is written value after value, and raw elements by their bytes.
-use crate::encodings::elements::raw_of;
+use crate::elements::raw_of;
 use byte_streams::{Sink, Source, Watched};
 use picky_asn1_der::misc::{PeekableReader, PeekedContent, ReadExt, Sequence, SequenceWriter};
 use picky_asn1_der::{Asn1DerError, Asn1RawDer, Serializer};

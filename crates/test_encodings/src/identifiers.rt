@@ -1,5 +1,5 @@
 //! Object identifiers, strings and UTC times. The bytes are those of X.690, RFC 8017, and of `openssl asn1parse -genstr`.
-use crate::encodings::spelling::{fault_of, is_made, is_own_copy, is_spelled, is_written};
+use crate::spelling::{fault_of, is_made, is_own_copy, is_spelled, is_written};
 use picky_asn1::LeafFault;
 use picky_asn1::date::{GeneralizedTime, UTCTime};
 use picky_asn1::oid::ObjectIdentifier;

@@ -1,4 +1,5 @@
 //! Worked values of DER and of the leaf types: the examples of the standards. Binary layouts over published rows (`layouts`).
+#![tactic(auto)]
 
 #[cfg(test)]
 mod built_in;

@@ -1,5 +1,5 @@
 //! Elements in place and as bytes, and identifier octets.
-use crate::encodings::spelling::is_written;
+use crate::spelling::is_written;
 use picky_asn1_der::{Asn1DerError, Asn1RawDer, Tag, TagClass, from_exact_bytes, split_element};
 use std::alloc::Global;
 

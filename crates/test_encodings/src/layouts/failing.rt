@@ -1,6 +1,6 @@
 //! Readers and writers that fail behind each byte.
 
-use crate::encodings::layouts::negoex::VERIFY;
+use crate::layouts::negoex::VERIFY;
 use byte_streams::{Sink, Source};
 use gss_contexts::{GssApiMessageError, LsapTokenInfoIntegrity, MicToken, WrapToken};
 use microsoft_messages::{Pac, PacError, PacInfoBuffer};

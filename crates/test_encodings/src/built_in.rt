@@ -1,5 +1,5 @@
 //! Rust's own types. The bytes are what `openssl asn1parse -genstr` writes.
-use crate::encodings::spelling::{fault_of, is_read, is_spelled, is_written};
+use crate::spelling::{fault_of, is_read, is_spelled, is_written};
 use picky_asn1_der::{Asn1DerError, ByteBuf, Rule, from_exact_bytes};
 use std::alloc::Global;
 

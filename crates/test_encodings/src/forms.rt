@@ -1,6 +1,6 @@
 //! The forms of types. The bytes are those of the standards' examples, and what `openssl asn1parse -genconf` writes.
-use crate::encodings::sample::{LONG_SAMPLE, SHORT_SAMPLE, Sample, sample_of};
-use crate::encodings::spelling::{front_fault_of, is_spelled, is_written};
+use crate::sample::{LONG_SAMPLE, SHORT_SAMPLE, Sample, sample_of};
+use crate::spelling::{front_fault_of, is_spelled, is_written};
 use asn1_der::octets::INTEGER;
 use picky_asn1_der::{
     Alternatives, ApplicationTag, Asn1DerError, BitStringContainer, Choice, Deserializer, Elements,

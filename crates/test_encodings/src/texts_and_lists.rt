@@ -1,6 +1,6 @@
 //! Texts and lists in Rust's own types. The bytes are what `openssl asn1parse -genconf` writes.
-use crate::encodings::person::{Person, SHORT_PERSON, WHOLE_PERSON, person_of};
-use crate::encodings::spelling::{fault_of, is_spelled, is_written};
+use crate::person::{Person, SHORT_PERSON, WHOLE_PERSON, person_of};
+use crate::spelling::{fault_of, is_spelled, is_written};
 use picky_asn1_der::{
     Asn1DerError, Deserialize, ExplicitContextTag3, ImplicitContextTag2, ImplicitContextTag3, Rule,
 };

@@ -1,6 +1,6 @@
 //! Lengths, integers, bit strings, strings and times: the examples of X.690, and worked values.
 
-use crate::encodings::spelling::is_own_copy;
+use crate::spelling::is_own_copy;
 use asn1_der::{LengthOctets, following, length_of};
 use picky_asn1::LeafFault;
 use picky_asn1::date::GeneralizedTime;
