@@ -131,8 +131,17 @@ fn times_of(times: &CredentialTimes) -> Option<TicketTimes> {
             authtime,
             starttime,
             endtime,
+            renew_till: renew_till_of(times),
         }),
         _ => None,
+    }
+}
+
+// Until when a ticket may be renewed, if it is renewable.
+fn renew_till_of(times: &CredentialTimes) -> Option<GeneralizedTime> {
+    match times.renew_till {
+        0 => None,
+        seconds => time_of(seconds),
     }
 }
 

@@ -1,3 +1,4 @@
 pub mod Tagged
 pub mod Outcomes
+pub mod PlainOptions
 pub mod TakingReply

@@ -15,13 +15,18 @@ use Rattle.krb_client.specs.Asked.{AsAskedRecord, agreement_part}
 use Rattle.krb_client.specs.Client.{ClientRecord}
 use Rattle.krb_client.specs.Means.{IsUnshown, MeansRecord}
 use Rattle.krb_client.specs.Messages.{as_request_bytes}
-use Rattle.krb_client.specs.Requests.{nonce_of, listing_body, kdc_request_of}
+use Rattle.krb_client.specs.Requests.{nonce_of, listing_body, kdc_request_of, optioned_body}
+use Rattle.krb_client.specs.declared.options.TicketOptions.{TicketOptions}
 use Rattle.krb_client.specs.declared.refusal.AskRefusal.{AskRefusal}
 use Rattle.krb_client.specs.declared.refusal.AskRefusal.TheVariants.{BadName}
 
 -- the body of a request that lists these suites, in which the client is named
 abbrev pub as_body_of_suites : ClientRecord → List CipherSuite → List Bytes → GeneralizedTime → Random → KdcReqBody
 as_body_of_suites client suites service till words = listing_body client true suites service till (nonce_of words)
+
+-- the same body with options
+abbrev pub as_body_with : ClientRecord → List CipherSuite → TicketOptions → List Bytes → GeneralizedTime → Random → KdcReqBody
+as_body_with client suites options service till words = optioned_body client true suites options service till (nonce_of words)
 
 -- the body of a request that lists the client's suite alone
 abbrev pub as_body : ClientRecord → List Bytes → GeneralizedTime → Random → KdcReqBody
@@ -37,6 +42,12 @@ pub record AsksAsOfSuites (client : ClientRecord) (suites : List CipherSuite) (m
   pub padata : PaData
   pub shown : means.asks (as_body_of_suites client suites service till words) moment words padata
   pub encoding : bytes ≡ as_request_bytes (as_request_of padata (as_body_of_suites client suites service till words))
+
+-- the bytes are such a request with options
+pub record AsksAsWith (client : ClientRecord) (suites : List CipherSuite) (options : TicketOptions) (means : MeansRecord) (service : List Bytes) (till : GeneralizedTime) (moment : Micros) (words : Random) (bytes : Bytes) : Type 0 where
+  pub padata : PaData
+  pub shown : means.asks (as_body_with client suites options service till words) moment words padata
+  pub encoding : bytes ≡ as_request_bytes (as_request_of padata (as_body_with client suites options service till words))
 
 -- the bytes are such a request, and it lists the client's suite alone
 abbrev pub AsksAs : ClientRecord → MeansRecord → List Bytes → GeneralizedTime → Micros → Random → Bytes → Type 0
@@ -56,6 +67,11 @@ abbrev pub IsUnaskedOfSuites : ClientRecord → List CipherSuite → MeansRecord
 IsUnaskedOfSuites client suites means service till moment words refusal =
     ((refusal ≡ BadName) × (are_components service ≡ false)) ⊎ IsUnshown means (as_body_of_suites client suites service till words) moment words refusal
 
+-- why the client doesn't ask with options
+abbrev pub IsUnaskedWith : ClientRecord → List CipherSuite → TicketOptions → MeansRecord → List Bytes → GeneralizedTime → Micros → Random → AskRefusal → Type 0
+IsUnaskedWith client suites options means service till moment words refusal =
+    ((refusal ≡ BadName) × (are_components service ≡ false)) ⊎ IsUnshown means (as_body_with client suites options service till words) moment words refusal
+
 -- why the client doesn't ask for its suite alone
 abbrev pub IsUnasked : ClientRecord → MeansRecord → List Bytes → GeneralizedTime → Micros → Random → AskRefusal → Type 0
 IsUnasked client means service till moment words refusal = IsUnaskedOfSuites client (client.suite ∷ []) means service till moment words refusal
@@ -67,6 +83,14 @@ sole_as_of_suites client suites means service till moment words a b x y =
     x.encoding
     ∙ ap (λ padata. as_request_bytes (as_request_of padata (as_body_of_suites client suites service till words)))
     (means.sole_asks (as_body_of_suites client suites service till words) moment words x.padata y.padata x.shown y.shown)
+    ∙ sym y.encoding
+
+pub sole_as_with : (client : ClientRecord) (suites : List CipherSuite) (options : TicketOptions) (means : MeansRecord) (service : List Bytes) (till : GeneralizedTime) (moment : Micros) (words : Random) (a b : Bytes)
+    → AsksAsWith client suites options means service till moment words a → AsksAsWith client suites options means service till moment words b → a ≡ b
+sole_as_with client suites options means service till moment words a b x y =
+    x.encoding
+    ∙ ap (λ padata. as_request_bytes (as_request_of padata (as_body_with client suites options service till words)))
+    (means.sole_asks (as_body_with client suites options service till words) moment words x.padata y.padata x.shown y.shown)
     ∙ sym y.encoding
 
 pub sole_as_request : (client : ClientRecord) (means : MeansRecord) (service : List Bytes) (till : GeneralizedTime) (moment : Micros) (words : Random) (a b : Bytes)

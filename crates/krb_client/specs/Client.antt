@@ -1,5 +1,5 @@
 -- What clients are, and what they are granted (RFC 4120, sections 3.1, 3.2).
-use Rattle.std.specs.Prelude.{not, ◌&&◌, List, Result, Ok, Err, if◌then◌else◌}
+use Rattle.std.specs.Prelude.{not, ◌&&◌, List, Option, Result, Ok, Err, if◌then◌else◌}
 use Rattle.asn1_leaves.specs.declared.date.GeneralizedTime.{GeneralizedTime}
 use Rattle.picky_asn1.specs.BitString.{Bits}
 use Rattle.picky_asn1.specs.Bytes.{Bytes}
@@ -33,4 +33,5 @@ pub record CredentialRecord : Type 0 where
   pub authtime : GeneralizedTime
   pub starttime : GeneralizedTime
   pub endtime : GeneralizedTime
+  pub renew_till : Option GeneralizedTime
   pub flags : Bits

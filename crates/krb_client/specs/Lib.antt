@@ -2,6 +2,7 @@ pub mod Client
 pub mod Refusals
 pub mod Messages
 pub mod Held
+pub mod Options
 pub mod Requests
 pub mod Means
 pub mod EncryptedTimestamps

@@ -1,5 +1,5 @@
 -- Requests to a KDC (RFC 4120, section 5.4.1): what those for a first ticket and for further ones have in common.
-use Rattle.std.specs.Prelude.{ℕ, ℤ, ◌%◌, Bool, List, [], ◌∷◌, Option, None, Some, map, pos, if◌then◌else◌}
+use Rattle.std.specs.Prelude.{◌≡◌, ℕ, ℤ, ◌%◌, Bool, List, [], ◌∷◌, Option, None, Some, map, pos, refl, if◌then◌else◌}
 use Rattle.std.specs.Int.{from_be_bytes, w32}
 use Rattle.picky_asn1.specs.BitString.{Bits}
 use Rattle.picky_asn1.specs.Bytes.{Bytes}
@@ -15,6 +15,8 @@ use Rattle.krb_messages.specs.declared.messages.kdc_req.KdcReq.{KdcReq}
 use Rattle.krb_messages.specs.declared.messages.kdc_req_body.KdcReqBody.{KdcReqBody}
 use Rattle.krb_client.specs.Client.{ClientRecord}
 use Rattle.krb_client.specs.Held.{principal_name}
+use Rattle.krb_client.specs.Options.{options_of, plain_options, rtime_of}
+use Rattle.krb_client.specs.declared.options.TicketOptions.{TicketOptions}
 
 -- the nonce: four of the random bytes, big-endian, of which 31 bits count
 abbrev pub nonce_of : Random → ℕ
@@ -48,6 +50,16 @@ listing_body client named suites service till nonce = record {
   enc_authorization_data = record { 0 = None };
   additional_tickets = record { 0 = None };
 }
+
+-- the same body, with options and rtime
+abbrev pub optioned_body : ClientRecord → Bool → List CipherSuite → TicketOptions → List Bytes → GeneralizedTime → ℕ → KdcReqBody
+optioned_body client named suites options service till nonce =
+    record (listing_body client named suites service till nonce) { kdc_options = record { 0 = options_of options }; rtime = record { 0 = rtime_of options } }
+
+-- without an option it is that body
+plain_body : (client : ClientRecord) (named : Bool) (suites : List CipherSuite) (service : List Bytes) (till : GeneralizedTime) (nonce : ℕ)
+    → optioned_body client named suites plain_options service till nonce ≡ listing_body client named suites service till nonce
+plain_body client named suites service till nonce = refl
 
 -- the body with the client's suite as the only one
 abbrev pub request_body : ClientRecord → Bool → List Bytes → GeneralizedTime → ℕ → KdcReqBody

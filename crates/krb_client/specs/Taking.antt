@@ -1,7 +1,7 @@
 -- What a client takes as a reply (RFC 4120, sections 3.1.5, 3.2.5, 3.3.4): the rules that its kinds have in common. The first
 -- case that holds counts.
-use Rattle.std.specs.Prelude.{ℕ, ℤ, Bool, not, ◌&&◌, List, Result, Ok, Err}
-use Rattle.std.specs.Option.{option_map_or}
+use Rattle.std.specs.Prelude.{ℕ, ℤ, Bool, not, ◌&&◌, List, Option, Result, Ok, Err}
+use Rattle.std.specs.Option.{option_map, option_map_or}
 use Rattle.asn1_leaves.specs.declared.date.GeneralizedTime.{GeneralizedTime}
 use Rattle.krb_crypto.specs.declared.suite.CipherSuite.{CipherSuite}
 use Rattle.krb_messages.specs.declared.data_types.encrypted_data.EncryptedData.{EncryptedData}
@@ -55,6 +55,10 @@ Taken = Result CredentialRecord TakeRefusal
 abbrev pub starttime_of : EncKdcRepPart → GeneralizedTime
 starttime_of part = option_map_or (λ tagged. tagged.0.0) part.start_time.0 part.auth_time.0.0
 
+-- until when a renewable ticket may be renewed (RFC 4120, section 5.4.2)
+abbrev pub renew_till_of : EncKdcRepPart → Option GeneralizedTime
+renew_till_of part = option_map (λ tagged. tagged.0.0) part.renew_till.0
+
 -- the reply's ticket, with the key, realm, service, times and flags of its opened part
 abbrev pub credential_of : KdcRep → EncKdcRepPart → CipherSuite → CredentialRecord
 credential_of reply part suite = record {
@@ -66,6 +70,7 @@ credential_of reply part suite = record {
   authtime = part.auth_time.0.0;
   starttime = starttime_of part;
   endtime = part.end_time.0.0;
+  renew_till = renew_till_of part;
   flags = part.flags.0;
 }
 

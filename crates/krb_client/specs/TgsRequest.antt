@@ -22,7 +22,8 @@ use Rattle.krb_client.specs.Authenticators.{IsApRequest, IsAuthenticatorOf, sole
 use Rattle.krb_client.specs.Client.{ClientRecord, CredentialRecord}
 use Rattle.krb_client.specs.Messages.{tgs_request_bytes}
 use Rattle.krb_messages.specs.Bodies.{body_bytes}
-use Rattle.krb_client.specs.Requests.{nonce_of, listing_body, kdc_request_of}
+use Rattle.krb_client.specs.Requests.{nonce_of, listing_body, kdc_request_of, optioned_body}
+use Rattle.krb_client.specs.declared.options.TicketOptions.{TicketOptions}
 use Rattle.krb_tickets.specs.MethodData.{pa_data_of}
 
 -- the checksum of the session key's suite over a text (RFC 4120, section 7.5.1)
@@ -50,10 +51,19 @@ sole_authentication client credential moment confounder text a b x y =
 abbrev pub further_body : ClientRecord → List CipherSuite → List Bytes → GeneralizedTime → ℕ → KdcReqBody
 further_body client suites service till nonce = listing_body client false suites service till nonce
 
+-- the same body with options
+abbrev pub further_body_with : ClientRecord → List CipherSuite → TicketOptions → List Bytes → GeneralizedTime → ℕ → KdcReqBody
+further_body_with client suites options service till nonce = optioned_body client false suites options service till nonce
+
 -- the request with its AP request, PA-TGS-REQ (RFC 4120, section 7.5.2)
 abbrev pub further_request : ClientRecord → List CipherSuite → List Bytes → GeneralizedTime → ℕ → Bytes → KdcReq
 further_request client suites service till nonce request =
     kdc_request_of TGS_REQ_MSG_TYPE (pa_data_of PA_TGS_REQ request) (further_body client suites service till nonce)
+
+-- the same request with options
+abbrev pub further_request_with : ClientRecord → List CipherSuite → TicketOptions → List Bytes → GeneralizedTime → ℕ → Bytes → KdcReq
+further_request_with client suites options service till nonce request =
+    kdc_request_of TGS_REQ_MSG_TYPE (pa_data_of PA_TGS_REQ request) (further_body_with client suites options service till nonce)
 
 -- that request, which lists the client's suite alone
 abbrev pub tgs_request_of : ClientRecord → List Bytes → GeneralizedTime → ℕ → Bytes → KdcReq
@@ -71,6 +81,12 @@ pub record AsksTgsOfSuites (client : ClientRecord) (suites : List CipherSuite) (
   pub authenticates : Authenticates client credential moment (authenticator_confounder (cipher_confounder_size credential.suite) words) (body_bytes (further_body client suites service till (nonce_of words))) request
   pub encoding : bytes ≡ tgs_request_bytes (further_request client suites service till (nonce_of words) request)
 
+-- The bytes are such a request with options, over which its authenticator has a checksum, too.
+pub record AsksTgsWith (client : ClientRecord) (suites : List CipherSuite) (options : TicketOptions) (credential : CredentialRecord) (service : List Bytes) (till : GeneralizedTime) (moment : Micros) (words : Random) (bytes : Bytes) : Type 0 where
+  pub request : Bytes
+  pub authenticates : Authenticates client credential moment (authenticator_confounder (cipher_confounder_size credential.suite) words) (body_bytes (further_body_with client suites options service till (nonce_of words))) request
+  pub encoding : bytes ≡ tgs_request_bytes (further_request_with client suites options service till (nonce_of words) request)
+
 -- the bytes are such a request, and it lists the client's suite alone
 abbrev pub AsksTgs : ClientRecord → CredentialRecord → List Bytes → GeneralizedTime → Micros → Random → Bytes → Type 0
 AsksTgs client credential service till moment words bytes = AsksTgsOfSuites client (client.suite ∷ []) credential service till moment words bytes
@@ -86,6 +102,14 @@ sole_tgs_of_suites client suites credential service till moment words a b x y =
     x.encoding
     ∙ ap (λ request. tgs_request_bytes (further_request client suites service till (nonce_of words) request))
     (sole_authentication client credential moment (authenticator_confounder (cipher_confounder_size credential.suite) words) (body_bytes (further_body client suites service till (nonce_of words))) x.request y.request x.authenticates y.authenticates)
+    ∙ sym y.encoding
+
+pub sole_tgs_with : (client : ClientRecord) (suites : List CipherSuite) (options : TicketOptions) (credential : CredentialRecord) (service : List Bytes) (till : GeneralizedTime) (moment : Micros) (words : Random) (a b : Bytes)
+    → AsksTgsWith client suites options credential service till moment words a → AsksTgsWith client suites options credential service till moment words b → a ≡ b
+sole_tgs_with client suites options credential service till moment words a b x y =
+    x.encoding
+    ∙ ap (λ request. tgs_request_bytes (further_request_with client suites options service till (nonce_of words) request))
+    (sole_authentication client credential moment (authenticator_confounder (cipher_confounder_size credential.suite) words) (body_bytes (further_body_with client suites options service till (nonce_of words))) x.request y.request x.authenticates y.authenticates)
     ∙ sym y.encoding
 
 pub sole_tgs_request : (client : ClientRecord) (credential : CredentialRecord) (service : List Bytes) (till : GeneralizedTime) (moment : Micros) (words : Random) (a b : Bytes)

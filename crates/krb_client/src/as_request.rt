@@ -2,7 +2,7 @@
 ghost use Rattle.std.specs.Prelude.{◌≡◌, ◌↔◌, ℕ, List, false, Err, IfErr, IfOk};
 ghost use Rattle.krb_messages.specs.RandomBytes.{AreEnoughForRequest};
 ghost use Rattle.krb_realm_accounts.specs.Names.{are_components, parts};
-ghost use Rattle.krb_client.specs.AsRequest.{AsksAs, AsksAsOfSuites, IsUnasked, IsUnaskedOfSuites, as_asked, as_body_of_suites, as_request_of};
+ghost use Rattle.krb_client.specs.AsRequest.{AsksAs, AsksAsOfSuites, AsksAsWith, IsUnasked, IsUnaskedOfSuites, IsUnaskedWith, as_asked, as_body_with, as_request_of};
 ghost use Rattle.krb_client.specs.Means.{IsUnshown};
 ghost use Rattle.krb_client.specs.Messages.{as_request_bytes};
 
@@ -10,6 +10,7 @@ use crate::asked::AsAsked;
 use crate::client::Client;
 use crate::kdc_request::{kdc_request_of, nonce_of};
 use crate::means::Means;
+use crate::options::TicketOptions;
 use crate::refusal::AskRefusal;
 use crate::ticket_request::TicketRequest;
 use krb_constants::types::AS_REQ_MSG_TYPE;
@@ -63,6 +64,27 @@ impl Client {
         ensures bad_name { (result ≡ Err AskRefusal.BadName) ↔ (are_components (parts request.now.service.now) ≡ false) }
         ensures refusal { IfErr result (IsUnaskedOfSuites self.now suites.now (M.means means.now) (parts request.now.service.now) request.now.till request.now.moment request.now.words.now) }
     {
+        self.as_request_with(alloc, means, suites, TicketOptions::plain(), request)
+    }
+
+    /// The request of `as_request_of_suites` with options (RFC 4120, section 5.4.1). A KDC refuses an AS request to renew.
+    pub fn as_request_with<M: Means>(
+        &self,
+        alloc: Global,
+        means: &M,
+        suites: &[CipherSuite],
+        options: TicketOptions,
+        request: &TicketRequest<'_>,
+    ) -> Result<(Vec<u8>, AsAsked), AskRefusal>
+        requires { AreEnoughForRequest request.now.words.now }
+        ensures asks { IfOk result (λ r.
+            AsksAsWith self.now suites.now options (M.means means.now) (parts request.now.service.now) request.now.till request.now.moment request.now.words.now r.0.items) }
+        ensures only { IfOk result (λ r. (other : List ℕ)
+            → AsksAsWith self.now suites.now options (M.means means.now) (parts request.now.service.now) request.now.till request.now.moment request.now.words.now other → other ≡ r.0.items) }
+        ensures asked { IfOk result (λ r. r.1 ≡ as_asked (parts request.now.service.now) request.now.moment request.now.words.now) }
+        ensures bad_name { (result ≡ Err AskRefusal.BadName) ↔ (are_components (parts request.now.service.now) ≡ false) }
+        ensures refusal { IfErr result (IsUnaskedWith self.now suites.now options (M.means means.now) (parts request.now.service.now) request.now.till request.now.moment request.now.words.now) }
+    {
         if !are_components(request.service) {
             return Err(AskRefusal::BadName);
         }
@@ -70,7 +92,7 @@ impl Client {
         let Ok(service) = components_of(alloc, request.service) else {
             return Err(AskRefusal::Memory);
         };
-        let bytes = self.as_bytes(alloc, means, suites, &service, request)?;
+        let bytes = self.as_bytes(alloc, means, suites, options, &service, request)?;
         let nonce = nonce_of(request.words);
         let asked = AsAsked::new(service, nonce, request.moment, request.words);
         Ok((bytes, asked))
@@ -82,16 +104,25 @@ impl Client {
         alloc: Global,
         means: &M,
         suites: &[CipherSuite],
+        options: TicketOptions,
         service: &[GeneralStringAsn1],
         request: &TicketRequest<'_>,
     ) -> Result<Vec<u8>, AskRefusal>
         requires { AreEnoughForRequest request.now.words.now }
         ensures asks { IfOk result (λ bytes.
-            AsksAsOfSuites self.now suites.now (M.means means.now) service.now request.now.till request.now.moment request.now.words.now bytes.items) }
-        ensures refusal { IfErr result (IsUnshown (M.means means.now) (as_body_of_suites self.now suites.now service.now request.now.till request.now.words.now) request.now.moment request.now.words.now) }
+            AsksAsWith self.now suites.now options (M.means means.now) service.now request.now.till request.now.moment request.now.words.now bytes.items) }
+        ensures refusal { IfErr result (IsUnshown (M.means means.now) (as_body_with self.now suites.now options service.now request.now.till request.now.words.now) request.now.moment request.now.words.now) }
     {
         let nonce = nonce_of(request.words);
-        let body = self.request_body(alloc, true, suites, service, request.till, nonce)?;
+        let body = self.request_body_with(
+            alloc,
+            true,
+            suites,
+            options,
+            service,
+            request.till,
+            nonce,
+        )?;
         match means.padata(alloc, &body, request.moment, request.words) {
             Ok(padata) => {
                 let bytes = as_request_bytes(alloc, padata, body)?;

@@ -1,7 +1,7 @@
 //! What a KDC grants a client.
 ghost use Rattle.std.specs.Prelude.{◌≡◌, Some, IfOk};
 ghost use Rattle.krb_tickets.specs.Keys.{key_in};
-ghost use Rattle.krb_client.specs.Taking.{credential_of, starttime_of};
+ghost use Rattle.krb_client.specs.Taking.{credential_of, renew_till_of, starttime_of};
 
 use crate::copies::ticket_copy;
 use krb_crypto::{CipherSuite, Key};
@@ -22,6 +22,8 @@ pub struct TicketTimes {
     pub starttime: GeneralizedTime,
     /// When the ticket ends.
     pub endtime: GeneralizedTime,
+    /// Until when the ticket may be renewed, if it is renewable.
+    pub renew_till: Option<GeneralizedTime>,
 }
 
 /// What a realm granted a client: a ticket, the session's key, which client and service share, the service's realm
@@ -35,6 +37,7 @@ pub struct Credential {
     authtime: GeneralizedTime,
     starttime: GeneralizedTime,
     endtime: GeneralizedTime,
+    renew_till: Option<GeneralizedTime>,
     flags: KerberosFlags,
 }
 
@@ -52,6 +55,7 @@ impl Model for Credential {
       authtime = c.authtime;
       starttime = c.starttime;
       endtime = c.endtime;
+      renew_till = c.renew_till;
       flags = c.flags;
     } };
 }
@@ -76,6 +80,7 @@ impl Credential {
           authtime = times.authtime;
           starttime = times.starttime;
           endtime = times.endtime;
+          renew_till = times.renew_till;
           flags = flags;
         } }
     {
@@ -87,6 +92,7 @@ impl Credential {
             authtime: times.authtime,
             starttime: times.starttime,
             endtime: times.endtime,
+            renew_till: times.renew_till,
             flags,
         }
     }
@@ -121,6 +127,7 @@ impl Credential {
             authtime: part.auth_time.0.0,
             starttime: starttime_of(part),
             endtime: part.end_time.0.0,
+            renew_till: renew_till_of(part),
             flags,
         })
     }
@@ -181,6 +188,13 @@ impl Credential {
         self.endtime
     }
 
+    /// Until when the ticket may be renewed, if it is renewable (RFC 4120, section 5.4.2).
+    pub fn renew_till(&self) -> Option<GeneralizedTime>
+        ensures { result ≡ self.now.renew_till }
+    {
+        self.renew_till
+    }
+
     /// The ticket's flags, which `krb_constants::ticket_flags` numbers (RFC 4120, section 5.4.2).
     pub fn flags(&self) -> &KerberosFlags
         ensures { result.now ≡ self.now.flags }
@@ -196,5 +210,15 @@ fn starttime_of(part: &EncKdcRepPart) -> GeneralizedTime
     match &part.start_time.0 {
         Some(tagged) => tagged.0.0,
         None => part.auth_time.0.0,
+    }
+}
+
+// Returns until when the ticket may be renewed.
+fn renew_till_of(part: &EncKdcRepPart) -> Option<GeneralizedTime>
+    ensures { result ≡ renew_till_of part.now }
+{
+    match &part.renew_till.0 {
+        Some(tagged) => Some(tagged.0.0),
+        None => None,
     }
 }

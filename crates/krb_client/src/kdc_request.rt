@@ -1,10 +1,11 @@
 //! Requests to a KDC: what those for a first ticket and for further ones have in common.
 ghost use Rattle.std.specs.Prelude.{◌≡◌, [], ◌∷◌, IfOk};
 ghost use Rattle.krb_messages.specs.RandomBytes.{AreEnoughForRequest};
-ghost use Rattle.krb_client.specs.Requests.{etypes, name_where, no_options, nonce_of, listing_body, kdc_request_of};
+ghost use Rattle.krb_client.specs.Requests.{etypes, name_where, no_options, nonce_of, listing_body, kdc_request_of, optioned_body};
 
 use crate::client::Client;
 use crate::names::principal_name;
+use crate::options::{TicketOptions, options_of, rtime_of};
 use krb_constants::types::{KERBEROS_VERSION, NT_PRINCIPAL, NT_SRV_INST};
 use krb_crypto::CipherSuite;
 use krb_messages::data_types::{KerberosFlags, PaData, PrincipalName};
@@ -58,6 +59,26 @@ impl Client {
             enc_authorization_data: Optional(None),
             additional_tickets: Optional(None),
         })
+    }
+
+    /// The body of `request_body`, with options and rtime. Fails only if memory runs out.
+    pub fn request_body_with(
+        &self,
+        alloc: Global,
+        named: bool,
+        suites: &[CipherSuite],
+        options: TicketOptions,
+        service: &[GeneralStringAsn1],
+        till: GeneralizedTime,
+        nonce: u32,
+    ) -> Result<KdcReqBody, AllocError>
+        ensures { IfOk result (λ body. body ≡ optioned_body self.now named suites.now options service.now till nonce) }
+    {
+        let body = self.request_body(alloc, named, suites, service, till, nonce);
+        let (mut body, bits) = both(body, options_of(alloc, options))?;
+        body.kdc_options = ExplicitContextTag(bits);
+        body.rtime = Optional(rtime_of(options));
+        Ok(body)
     }
 
     // The client's name, where the request is to have it.

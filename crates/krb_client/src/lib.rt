@@ -5,9 +5,10 @@
 //!
 //! `Client::as_request`, `Client::tgs_request` and `Client::ap_request` write the one encoding of what the client asks, with what is sealed
 //! in it (`AsksAs`, `AsksTgs`, `AsksAp`). `Client::as_request_of_suites` and `Client::tgs_request_of_suites` do so with the etypes of given
-//! suites (`AsksAsOfSuites`, `AsksTgsOfSuites`). `Client::take_as_reply`, `Client::take_tgs_reply` and `Client::take_ap_reply` accept a
-//! reply if and only if it answers the request. The first reason against a reply decides the refusal (`IsTaken`). The key of
-//! `Client::by_password` is the password's. `Credential::new` makes a credential of exactly its parts.
+//! suites (`AsksAsOfSuites`, `AsksTgsOfSuites`), `Client::as_request_with` and `Client::tgs_request_with` with `TicketOptions`
+//! (`AsksAsWith`, `AsksTgsWith`). `Client::take_as_reply`, `Client::take_tgs_reply` and `Client::take_ap_reply` accept a reply if and only
+//! if it answers the request. The first reason against a reply decides the refusal (`IsTaken`). The key of `Client::by_password` is the
+//! password's. `Credential::new` makes a credential of exactly its parts.
 #![tactic(auto)]
 
 mod agreement;
@@ -24,6 +25,7 @@ mod credential;
 mod kdc_request;
 mod means;
 mod names;
+mod options;
 mod read;
 mod refusal;
 mod taking;
@@ -41,6 +43,7 @@ pub use client::Client;
 pub use credential::{Credential, TicketTimes};
 pub use kdc_request::nonce_of;
 pub use means::Means;
+pub use options::TicketOptions;
 pub use read::{open_ap_part, read_ap_reply, read_error_code};
 pub use refusal::{AskRefusal, TakeRefusal};
 pub use taking::is_of_type;

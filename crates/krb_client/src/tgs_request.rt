@@ -6,13 +6,14 @@ ghost use Rattle.krb_client.specs.Messages.{tgs_request_bytes};
 ghost use Rattle.krb_messages.specs.Bodies.{body_bytes};
 ghost use Rattle.krb_client.specs.Requests.{nonce_of};
 ghost use Rattle.krb_crypto.specs.Suites.{cipher_confounder_size};
-ghost use Rattle.krb_client.specs.TgsRequest.{AsksTgs, AsksTgsOfSuites, Authenticates, checksum_over, further_body, further_request, tgs_asked};
+ghost use Rattle.krb_client.specs.TgsRequest.{AsksTgs, AsksTgsOfSuites, AsksTgsWith, Authenticates, checksum_over, further_body_with, further_request_with, tgs_asked};
 
 use crate::asked::TgsAsked;
 use crate::authenticator::ap_request;
 use crate::client::Client;
 use crate::credential::Credential;
 use crate::kdc_request::{kdc_request_of, nonce_of};
+use crate::options::TicketOptions;
 use crate::refusal::AskRefusal;
 use crate::ticket_request::TicketRequest;
 use krb_constants::key_usages;
@@ -72,6 +73,27 @@ impl Client {
         ensures bad_name { (result ≡ Err AskRefusal.BadName) ↔ (are_components (parts request.now.service.now) ≡ false) }
         ensures refusal { IfErr result (λ e. (e ≡ AskRefusal.Memory) ⊎ (e ≡ AskRefusal.BadName)) }
     {
+        self.tgs_request_with(alloc, credential, suites, TicketOptions::plain(), request)
+    }
+
+    /// The request of `tgs_request_of_suites` with options (RFC 4120, section 5.4.1). A renewal is for the service of the presented ticket.
+    pub fn tgs_request_with(
+        &self,
+        alloc: Global,
+        credential: &Credential,
+        suites: &[CipherSuite],
+        options: TicketOptions,
+        request: &TicketRequest<'_>,
+    ) -> Result<(Vec<u8>, TgsAsked), AskRefusal>
+        requires { AreEnoughForRequest request.now.words.now }
+        ensures asks { IfOk result (λ r.
+            AsksTgsWith self.now suites.now options credential.now (parts request.now.service.now) request.now.till request.now.moment request.now.words.now r.0.items) }
+        ensures only { IfOk result (λ r. (other : List ℕ)
+            → AsksTgsWith self.now suites.now options credential.now (parts request.now.service.now) request.now.till request.now.moment request.now.words.now other → other ≡ r.0.items) }
+        ensures asked { IfOk result (λ r. r.1 ≡ tgs_asked credential.now (parts request.now.service.now) request.now.words.now) }
+        ensures bad_name { (result ≡ Err AskRefusal.BadName) ↔ (are_components (parts request.now.service.now) ≡ false) }
+        ensures refusal { IfErr result (λ e. (e ≡ AskRefusal.Memory) ⊎ (e ≡ AskRefusal.BadName)) }
+    {
         if !are_components(request.service) {
             return Err(AskRefusal::BadName);
         }
@@ -79,7 +101,7 @@ impl Client {
         let Ok(service) = components_of(alloc, request.service) else {
             return Err(AskRefusal::Memory);
         };
-        let bytes = self.tgs_bytes(alloc, credential, suites, &service, request)?;
+        let bytes = self.tgs_bytes(alloc, credential, suites, options, &service, request)?;
         let nonce = nonce_of(request.words);
         let asked = TgsAsked::new(service, nonce, credential.key().copied());
         Ok((bytes, asked))
@@ -91,18 +113,27 @@ impl Client {
         alloc: Global,
         credential: &Credential,
         suites: &[CipherSuite],
+        options: TicketOptions,
         service: &[GeneralStringAsn1],
         asking: &TicketRequest<'_>,
     ) -> Result<Vec<u8>, AllocError>
         requires { AreEnoughForRequest asking.now.words.now }
         ensures { IfOk result (λ bytes.
-            AsksTgsOfSuites self.now suites.now credential.now service.now asking.now.till asking.now.moment asking.now.words.now bytes.items) }
+            AsksTgsWith self.now suites.now options credential.now service.now asking.now.till asking.now.moment asking.now.words.now bytes.items) }
     {
         let nonce = nonce_of(asking.words);
-        let body = self.tgs_body_bytes(alloc, suites, service, asking.till, nonce)?;
+        let body = self.tgs_body_bytes(alloc, suites, options, service, asking.till, nonce)?;
         let confounder = confounder_at(credential.suite(), asking.words, AUTHENTICATOR_CONFOUNDER);
         let request = self.authenticated(alloc, credential, asking.moment, confounder, &body)?;
-        let message = self.further_request(alloc, suites, service, asking.till, nonce, request)?;
+        let message = self.further_request(
+            alloc,
+            suites,
+            options,
+            service,
+            asking.till,
+            nonce,
+            request,
+        )?;
         let bytes = tgs_request_bytes(alloc, message)?;
         Ok(bytes)
     }
@@ -112,13 +143,14 @@ impl Client {
         &self,
         alloc: Global,
         suites: &[CipherSuite],
+        options: TicketOptions,
         service: &[GeneralStringAsn1],
         till: GeneralizedTime,
         nonce: u32,
     ) -> Result<Vec<u8>, AllocError>
-        ensures { IfOk result (λ bytes. bytes.items ≡ body_bytes (further_body self.now suites.now service.now till nonce)) }
+        ensures { IfOk result (λ bytes. bytes.items ≡ body_bytes (further_body_with self.now suites.now options service.now till nonce)) }
     {
-        let body = self.request_body(alloc, false, suites, service, till, nonce)?;
+        let body = self.request_body_with(alloc, false, suites, options, service, till, nonce)?;
         let bytes = body_bytes(alloc, body)?;
         Ok(bytes)
     }
@@ -154,15 +186,16 @@ impl Client {
         &self,
         alloc: Global,
         suites: &[CipherSuite],
+        options: TicketOptions,
         service: &[GeneralStringAsn1],
         till: GeneralizedTime,
         nonce: u32,
         request: Vec<u8>,
     ) -> Result<KdcReq, AllocError>
-        ensures { IfOk result (λ made. made ≡ further_request self.now suites.now service.now till nonce request.items) }
+        ensures { IfOk result (λ made. made ≡ further_request_with self.now suites.now options service.now till nonce request.items) }
     {
         let pa_data = pa_data(alloc, PA_TGS_REQ, request);
-        let body = self.request_body(alloc, false, suites, service, till, nonce);
+        let body = self.request_body_with(alloc, false, suites, options, service, till, nonce);
         let (pa_data, body) = both(pa_data, body)?;
         kdc_request_of(alloc, TGS_REQ_MSG_TYPE, pa_data, body)
     }

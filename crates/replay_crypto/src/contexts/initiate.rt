@@ -102,6 +102,7 @@ fn credential_with(
         authtime: second,
         starttime: second,
         endtime: second,
+        renew_till: None,
     };
     Ok(Credential::new(ticket, key, realm, service, times, flags))
 }

@@ -1,9 +1,12 @@
-use Rattle.std.proofs.Common.{rules}
-use Rattle.krb_realm_accounts.specs.Names.{parts}
-use Rattle.krb_client.specs.AsRequest.{AsksAsOfSuites, sole_as_of_suites}
+use Rattle.std.proofs.lemmas.Result.{IfOk-weaker}
+use Rattle.krb_client.proofs.PlainOptions.{as_plain, plain_as}
 use Rattle.krb_client.proofs.client.Client.as_request_of_suites.Goals as goal
 
+pub returns-clause-asks : goal.returns-clause-asks
+returns-clause-asks g c = IfOk-weaker c.as_request_with.result _ _ (λ r is. plain_as is) (rw c.plain.ensures at c.as_request_with.ensures.asks)
+
 pub returns-clause-only : goal.returns-clause-only
-returns-clause-only g c =
-    let own : AsksAsOfSuites c.args.self.now c.args.suites.now (g.M.Means.means c.args.means.now) (parts c.args.request.now.service.now) c.args.request.now.till c.args.request.now.moment c.args.request.now.words.now c.in_ok-bytes.bytes.items = search rules in
-    λ other asks. sole_as_of_suites c.args.self.now c.args.suites.now (g.M.Means.means c.args.means.now) (parts c.args.request.now.service.now) c.args.request.now.till c.args.request.now.moment c.args.request.now.words.now other c.in_ok-bytes.bytes.items asks own
+returns-clause-only g c = IfOk-weaker c.as_request_with.result _ _ (λ r only. λ other asks. only other (as_plain asks)) (rw c.plain.ensures at c.as_request_with.ensures.only)
+
+pub returns-clause-refusal : goal.returns-clause-refusal
+returns-clause-refusal g c = rw c.plain.ensures at c.as_request_with.ensures.refusal

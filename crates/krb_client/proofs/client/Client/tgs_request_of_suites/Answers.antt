@@ -1,9 +1,9 @@
-use Rattle.std.proofs.Common.{rules}
-use Rattle.krb_realm_accounts.specs.Names.{parts}
-use Rattle.krb_client.specs.TgsRequest.{AsksTgsOfSuites, sole_tgs_of_suites}
+use Rattle.std.proofs.lemmas.Result.{IfOk-weaker}
+use Rattle.krb_client.proofs.PlainOptions.{plain_tgs, tgs_plain}
 use Rattle.krb_client.proofs.client.Client.tgs_request_of_suites.Goals as goal
 
+pub returns-clause-asks : goal.returns-clause-asks
+returns-clause-asks c = IfOk-weaker c.tgs_request_with.result _ _ (λ r is. plain_tgs is) (rw c.plain.ensures at c.tgs_request_with.ensures.asks)
+
 pub returns-clause-only : goal.returns-clause-only
-returns-clause-only c =
-    let own : AsksTgsOfSuites c.args.self.now c.args.suites.now c.args.credential.now (parts c.args.request.now.service.now) c.args.request.now.till c.args.request.now.moment c.args.request.now.words.now c.in_ok-bytes.bytes.items = search rules in
-    λ other asks. sole_tgs_of_suites c.args.self.now c.args.suites.now c.args.credential.now (parts c.args.request.now.service.now) c.args.request.now.till c.args.request.now.moment c.args.request.now.words.now other c.in_ok-bytes.bytes.items asks own
+returns-clause-only c = IfOk-weaker c.tgs_request_with.result _ _ (λ r only. λ other asks. only other (tgs_plain asks)) (rw c.plain.ensures at c.tgs_request_with.ensures.only)
