@@ -16,8 +16,8 @@ use Rattle.krb_client_exchanges.specs.Suites.{suites_of}
 use Rattle.krb_client_exchanges.specs.AnswerHints.{hint_in_answer, suite_for}
 use Rattle.krb_client_exchanges.specs.Courses.{Course, ◌>>=◌, began, ended, judged, made, sent}
 use Rattle.krb_client_exchanges.specs.Events.{Asked, Began, Event, requests}
-use Rattle.krb_client_exchanges.specs.Logins.{after_first, after_hint, granted, granted_first, login_by_keytab, login_by_means, login_by_password, login_by_shared_key, means_of, ticket_for}
-use Rattle.krb_client_exchanges.specs.RequestKinds.{RequestRecord, as_request_by, exchange, first_as_request, tgs_request_by}
+use Rattle.krb_client_exchanges.specs.Logins.{after_first, after_hint, granted, granted_first, login_by_keytab, login_by_means, login_by_password, login_by_shared_key, means_of, renewed_ticket, ticket_for}
+use Rattle.krb_client_exchanges.specs.RequestKinds.{RequestRecord, as_request_by, exchange, first_as_request, renewal_request_by, tgs_request_by}
 use Rattle.krb_client_exchanges.specs.SharedKeys.{Keyed, keyed_by_keytab, keyed_by_password, some_suites, keytab_suites}
 use Rattle.krb_client_exchanges.specs.declared.fault.ExchangeFault.{ExchangeFault}
 use Rattle.krb_client_exchanges.specs.declared.fault.LoginRefusal.{LoginRefusal}
@@ -104,3 +104,8 @@ pub of_ticket : {F : Type 0} (client : ClientRecord) (suites : List CipherSuite)
 of_ticket client suites credential service =
     then_most 1 0 (exchange (tgs_request_by client suites credential service)) (λ further. granted suites (takes_tgs_reply client further.0 further.1))
     (of_exchange (tgs_request_by client suites credential service)) (λ further events outcome goes. none_there events goes.0)
+
+pub of_renewal : {F : Type 0} (client : ClientRecord) (suites : List CipherSuite) (credential : CredentialRecord) → AtMost {F = F} 1 (renewed_ticket client suites credential)
+of_renewal client suites credential =
+    then_most 1 0 (exchange (renewal_request_by client suites credential)) (λ further. granted suites (takes_tgs_reply client further.0 further.1))
+    (of_exchange (renewal_request_by client suites credential)) (λ further events outcome goes. none_there events goes.0)

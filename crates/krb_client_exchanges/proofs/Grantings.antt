@@ -30,8 +30,8 @@ use Rattle.krb_client_exchanges.specs.declared.wanted.Wanted.TheVariants.{Usual}
 use Rattle.krb_client_exchanges.specs.AnswerHints.{hint_in_answer, suite_for}
 use Rattle.krb_client_exchanges.specs.Courses.{Course, ◌>>=◌, judged}
 use Rattle.krb_client_exchanges.specs.Events.{Event}
-use Rattle.krb_client_exchanges.specs.Logins.{after_first, after_hint, granted, granted_first, login_by_keytab, login_by_means, login_by_password, login_by_shared_key, means_of, ticket_for}
-use Rattle.krb_client_exchanges.specs.RequestKinds.{as_request_by, exchange, first_as_request, tgs_request_by}
+use Rattle.krb_client_exchanges.specs.Logins.{after_first, after_hint, granted, granted_first, login_by_keytab, login_by_means, login_by_password, login_by_shared_key, means_of, renewed_ticket, ticket_for}
+use Rattle.krb_client_exchanges.specs.RequestKinds.{as_request_by, exchange, first_as_request, renewal_request_by, tgs_request_by}
 use Rattle.krb_client_exchanges.specs.SharedKeys.{Keyed, keyed_by_keytab, keyed_by_password, newest_key, some_suites, keytab_suites, told_as}
 use Rattle.krb_client_exchanges.specs.declared.fault.LoginRefusal.{LoginRefusal}
 use Rattle.krb_client_exchanges.specs.declared.fault.LoginRefusal.TheVariants.{NotHinted, NotMade}
@@ -85,6 +85,11 @@ of_means client suites means =
 pub of_ticket : {F : Type 0} (client : ClientRecord) (suites : List CipherSuite) (credential : CredentialRecord) (service : List Bytes) → Gives {F = F} (IsListed suites) (ticket_for client suites credential service)
 of_ticket client suites credential service =
     then_gives (IsListed suites) (exchange (tgs_request_by client suites credential service)) (λ further. granted suites (takes_tgs_reply client further.0 further.1))
+    (λ further. of_granted suites (takes_tgs_reply client further.0 further.1))
+
+pub of_renewal : {F : Type 0} (client : ClientRecord) (suites : List CipherSuite) (credential : CredentialRecord) → Gives {F = F} (IsListed suites) (renewed_ticket client suites credential)
+of_renewal client suites credential =
+    then_gives (IsListed suites) (exchange (renewal_request_by client suites credential)) (λ further. granted suites (takes_tgs_reply client further.0 further.1))
     (λ further. of_granted suites (takes_tgs_reply client further.0 further.1))
 
 -- what some element of a part has, some element of the whole has

@@ -1,5 +1,6 @@
 -- The credential cache of a login (MIT's file credential cache format, version 0x0504).
 use Rattle.std.specs.Prelude.{ℕ, ◌+◌, List, [], ◌∷◌, ◌++◌, map}
+use Rattle.std.specs.Option.{option_map_or}
 use Rattle.asn1_der.specs.Octets.{sequence_octet}
 use Rattle.asn1_der.specs.Tagged.{tagged_tree}
 use Rattle.asn1_der.specs.Tree.{der, wrapped}
@@ -37,13 +38,17 @@ service_principal credential =
 abbrev pub cached_key : CredentialRecord → Typed
 cached_key credential = record { kind = cipher_number credential.suite; octets = credential.key }
 
--- The times in seconds since the start of 1970. A ticket that isn't renewable has 0 as the end of its renewals.
+-- The end of a ticket's renewals, in seconds since the start of 1970. A ticket that isn't renewable has 0.
+abbrev pub cached_renew_till : CredentialRecord → ℕ
+cached_renew_till credential = option_map_or (λ time. since_epoch (seconds_of time)) credential.renew_till 0
+
+-- The times in seconds since the start of 1970.
 abbrev pub cached_times : CredentialRecord → CredentialTimes
 cached_times credential = record {
   authtime = since_epoch (seconds_of credential.authtime);
   starttime = since_epoch (seconds_of credential.starttime);
   endtime = since_epoch (seconds_of credential.endtime);
-  renew_till = 0;
+  renew_till = cached_renew_till credential;
 }
 
 -- What a client was granted, as a cache has it.

@@ -18,7 +18,7 @@ use Rattle.krb_client_exchanges.specs.declared.hint.KeyHint.{KeyHint}
 use Rattle.krb_client_exchanges.specs.declared.wanted.Wanted.{Wanted}
 use Rattle.krb_client_exchanges.specs.AnswerHints.{hint_in_answer, suite_for}
 use Rattle.krb_client_exchanges.specs.Courses.{Course, ◌>>=◌, judged}
-use Rattle.krb_client_exchanges.specs.RequestKinds.{as_request_by, exchange, first_as_request, tgs_request_by}
+use Rattle.krb_client_exchanges.specs.RequestKinds.{as_request_by, exchange, first_as_request, renewal_request_by, tgs_request_by}
 use Rattle.krb_client_exchanges.specs.SharedKeys.{Keyed, keyed_by_keytab, keyed_by_password, some_suites, keytab_suites}
 use Rattle.krb_client_exchanges.specs.declared.fault.LoginRefusal.TheVariants.{NotHinted, NotTaken}
 
@@ -80,4 +80,10 @@ login_by_means client suites means = do
 abbrev pub ticket_for : {F : Type 0} → ClientRecord → List CipherSuite → CredentialRecord → List Bytes → Course F CredentialRecord
 ticket_for client suites credential service = do
   further ← exchange (tgs_request_by client suites credential service)
+  granted suites (takes_tgs_reply client further.0 further.1)
+
+-- A ticket-granting ticket that is renewed by itself (RFC 4120, section 3.3.3). The reply is taken as that for a service.
+abbrev pub renewed_ticket : {F : Type 0} → ClientRecord → List CipherSuite → CredentialRecord → Course F CredentialRecord
+renewed_ticket client suites credential = do
+  further ← exchange (renewal_request_by client suites credential)
   granted suites (takes_tgs_reply client further.0 further.1)

@@ -4,14 +4,15 @@ use Rattle.picky_asn1.specs.Bytes.{Bytes}
 use Rattle.krb_realm_accounts.specs.Names.{are_components}
 use Rattle.krb_crypto.specs.declared.suite.CipherSuite.{CipherSuite}
 use Rattle.krb_messages.specs.TicketGranting.{krbtgt_of}
-use Rattle.krb_client.specs.AsRequest.{AsksAsOfSuites, as_asked, as_body_of_suites}
+use Rattle.krb_client.specs.AsRequest.{AsksAsWith, as_asked, as_body_with}
 use Rattle.krb_client.specs.Asked.{AsAskedRecord, TgsAskedRecord}
 use Rattle.krb_client.specs.Client.{ClientRecord, CredentialRecord}
 use Rattle.krb_client.specs.Means.{MeansRecord}
-use Rattle.krb_client.specs.TgsRequest.{AsksTgsOfSuites, tgs_asked}
+use Rattle.krb_client.specs.Options.{renewal_options}
+use Rattle.krb_client.specs.TgsRequest.{AsksTgsOfSuites, AsksTgsWith, tgs_asked}
 use Rattle.krb_client.specs.declared.refusal.AskRefusal.{AskRefusal}
 use Rattle.krb_client.specs.declared.refusal.AskRefusal.TheVariants as ask_refusal
-use Rattle.krb_client_exchanges.specs.FirstRequests.{first_request_bytes}
+use Rattle.krb_client_exchanges.specs.FirstRequests.{first_request_bytes_with}
 use Rattle.krb_client_exchanges.specs.Courses.{Course, ◌>>=◌, began, ended, made, sent}
 use Rattle.krb_client_exchanges.specs.declared.occasion.Occasion.{Occasion}
 
@@ -33,29 +34,41 @@ exchange request = do
 abbrev pub granting_asked : ClientRecord → Occasion → AsAskedRecord
 granting_asked client occasion = as_asked (krbtgt_of client.realm) occasion.moment occasion.words
 
--- The first AS request lists the suites, and has no padata (RFC 4120, section 3.1.1). Nothing keeps a client from making it.
+-- The first AS request lists the suites, has the options of its occasion, and no padata (RFC 4120, section 3.1.1). Nothing keeps a client
+-- from making it.
 abbrev pub first_as_request : ClientRecord → List CipherSuite → RequestRecord AsAskedRecord
 first_as_request client suites = record {
-  asks = λ occasion octets. octets ≡ first_request_bytes client suites (krbtgt_of client.realm) occasion.till occasion.words;
+  asks = λ occasion octets. octets ≡ first_request_bytes_with client suites occasion.options (krbtgt_of client.realm) occasion.till occasion.words;
   refuses = λ occasion refusal. ⊥;
   remembers = granting_asked client;
 }
 
--- An AS request with the padata of the client's means lists the suites (RFC 4120, section 3.1.1). The means may have no padata.
+-- An AS request with the padata of the client's means lists the suites, and has the options of its occasion (RFC 4120, section 3.1.1). The
+-- means may have no padata.
 abbrev pub as_request_by : ClientRecord → List CipherSuite → MeansRecord → RequestRecord AsAskedRecord
 as_request_by client suites means = record {
-  asks = λ occasion octets. AsksAsOfSuites client suites means (krbtgt_of client.realm) occasion.till occasion.moment occasion.words octets;
+  asks = λ occasion octets. AsksAsWith client suites occasion.options means (krbtgt_of client.realm) occasion.till occasion.moment occasion.words octets;
   refuses = λ occasion refusal. (refusal ≡ ask_refusal.NoKeyFunction)
-      × means.refuses (as_body_of_suites client suites (krbtgt_of client.realm) occasion.till occasion.words) occasion.moment occasion.words;
+      × means.refuses (as_body_with client suites occasion.options (krbtgt_of client.realm) occasion.till occasion.words) occasion.moment occasion.words;
   remembers = granting_asked client;
 }
 
--- A TGS request by a credential lists the suites (RFC 4120, section 3.3.1). The service's name may be none.
+-- A TGS request by a credential lists the suites, and has no option (RFC 4120, section 3.3.1). The service's name may be none.
 abbrev pub tgs_request_by : ClientRecord → List CipherSuite → CredentialRecord → List Bytes → RequestRecord TgsAskedRecord
 tgs_request_by client suites credential service = record {
   asks = λ occasion octets. AsksTgsOfSuites client suites credential service occasion.till occasion.moment occasion.words octets;
   refuses = λ occasion refusal. (refusal ≡ ask_refusal.BadName) × (are_components service ≡ false);
   remembers = λ occasion. tgs_asked credential service occasion.words;
+}
+
+-- A TGS request to renew a credential's ticket lists the suites, has the options of a renewal, and is for the ticket-granting service (RFC
+-- 4120, section 3.3.3). Nothing keeps a client from making it.
+abbrev pub renewal_request_by : ClientRecord → List CipherSuite → CredentialRecord → RequestRecord TgsAskedRecord
+renewal_request_by client suites credential = record {
+  asks = λ occasion octets.
+      AsksTgsWith client suites (renewal_options credential.flags) credential (krbtgt_of client.realm) occasion.till occasion.moment occasion.words octets;
+  refuses = λ occasion refusal. ⊥;
+  remembers = λ occasion. tgs_asked credential (krbtgt_of client.realm) occasion.words;
 }
 
 -- What was made at an occasion is such a request with what the client remembers of it, or the refusal is one of the request.

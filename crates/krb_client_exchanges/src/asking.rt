@@ -2,11 +2,11 @@
 ghost use Rattle.std.specs.Prelude.{◌≡◌, ◌↔◌, ◌⊎◌, false, Err, IfErr, IfOk};
 ghost use Rattle.krb_messages.specs.RandomBytes.{AreEnoughForRequest};
 ghost use Rattle.krb_realm_accounts.specs.Names.{are_components, parts};
-ghost use Rattle.krb_client.specs.AsRequest.{as_asked, as_body_of_suites};
+ghost use Rattle.krb_client.specs.AsRequest.{as_asked, as_body_with};
 ghost use Rattle.krb_client.specs.Messages.{as_request_bytes};
-ghost use Rattle.krb_client_exchanges.specs.FirstRequests.{bare_request, first_request_bytes};
+ghost use Rattle.krb_client_exchanges.specs.FirstRequests.{bare_request, first_request_bytes, first_request_bytes_with};
 
-use krb_client::{AsAsked, AskRefusal, Client, TicketRequest, nonce_of};
+use krb_client::{AsAsked, AskRefusal, Client, TicketOptions, TicketRequest, nonce_of};
 use krb_constants::types::{AS_REQ_MSG_TYPE, KERBEROS_VERSION};
 use krb_crypto::CipherSuite;
 use krb_messages::messages::{KdcReq, KdcReqBody};
@@ -32,6 +32,23 @@ pub fn first_request(
     ensures bad_name { (result ≡ Err AskRefusal.BadName) ↔ (are_components (parts request.now.service.now) ≡ false) }
     ensures refusal { IfErr result (λ e. (e ≡ AskRefusal.Memory) ⊎ (e ≡ AskRefusal.BadName)) }
 {
+    first_request_with(alloc, client, suites, TicketOptions::plain(), request)
+}
+
+/// The request of `first_request` with options (RFC 4120, section 5.4.1). A KDC refuses an AS request to renew.
+pub fn first_request_with(
+    alloc: Global,
+    client: &Client,
+    suites: &[CipherSuite],
+    options: TicketOptions,
+    request: &TicketRequest<'_>,
+) -> Result<(Vec<u8>, AsAsked), AskRefusal>
+    requires { AreEnoughForRequest request.now.words.now }
+    ensures asks { IfOk result (λ r. r.0.items ≡ first_request_bytes_with client.now suites.now options (parts request.now.service.now) request.now.till request.now.words.now) }
+    ensures asked { IfOk result (λ r. r.1 ≡ as_asked (parts request.now.service.now) request.now.moment request.now.words.now) }
+    ensures bad_name { (result ≡ Err AskRefusal.BadName) ↔ (are_components (parts request.now.service.now) ≡ false) }
+    ensures refusal { IfErr result (λ e. (e ≡ AskRefusal.Memory) ⊎ (e ≡ AskRefusal.BadName)) }
+{
     if !are_components(request.service) {
         return Err(AskRefusal::BadName);
     }
@@ -39,7 +56,7 @@ pub fn first_request(
     let Ok(service) = components_of(alloc, request.service) else {
         return Err(AskRefusal::Memory);
     };
-    let body = first_body(alloc, client, suites, &service, request)?;
+    let body = first_body(alloc, client, suites, options, &service, request)?;
     let bytes = request_bytes(alloc, body)?;
     let nonce = nonce_of(request.words);
     let asked = AsAsked::new(service, nonce, request.moment, request.words);
@@ -51,14 +68,15 @@ fn first_body(
     alloc: Global,
     client: &Client,
     suites: &[CipherSuite],
+    options: TicketOptions,
     service: &[GeneralStringAsn1],
     request: &TicketRequest<'_>,
 ) -> Result<KdcReqBody, AllocError>
     requires { AreEnoughForRequest request.now.words.now }
-    ensures { IfOk result (λ body. body ≡ as_body_of_suites client.now suites.now service.now request.now.till request.now.words.now) }
+    ensures { IfOk result (λ body. body ≡ as_body_with client.now suites.now options service.now request.now.till request.now.words.now) }
 {
     let nonce = nonce_of(request.words);
-    client.request_body(alloc, true, suites, service, request.till, nonce)
+    client.request_body_with(alloc, true, suites, options, service, request.till, nonce)
 }
 
 // The encoding of an AS request with this body.

@@ -1,6 +1,6 @@
 //! The credentials of a cache.
 ghost use Rattle.std.specs.Prelude.{◌≡◌, IfOk};
-ghost use Rattle.krb_client_exchanges.specs.LoginCaches.{cached_credential, cached_key, cached_times, client_principal, flags_number, service_principal, ticket_bytes};
+ghost use Rattle.krb_client_exchanges.specs.LoginCaches.{cached_credential, cached_key, cached_renew_till, cached_times, client_principal, flags_number, service_principal, ticket_bytes};
 
 use krb_client::{Client, Credential};
 use krb_constants::types::{NT_PRINCIPAL, NT_SRV_INST, TICKET_TYPE};
@@ -96,7 +96,7 @@ fn cached_key(alloc: Global, credential: &Credential) -> Result<TypedOctets, All
     })
 }
 
-// The times of a credential, which isn't renewable.
+// The times of a credential.
 fn cached_times(credential: &Credential) -> CredentialTimes
     ensures { result ≡ cached_times credential.now }
 {
@@ -104,7 +104,17 @@ fn cached_times(credential: &Credential) -> CredentialTimes
         authtime: seconds_since_epoch(credential.authtime()),
         starttime: seconds_since_epoch(credential.starttime()),
         endtime: seconds_since_epoch(credential.endtime()),
-        renew_till: 0,
+        renew_till: cached_renew_till(credential),
+    }
+}
+
+// The end of the renewals of a credential, which is 0 where it isn't renewable.
+fn cached_renew_till(credential: &Credential) -> u32
+    ensures { result ≡ cached_renew_till credential.now }
+{
+    match credential.renew_till() {
+        Some(time) => seconds_since_epoch(time),
+        None => 0,
     }
 }
 

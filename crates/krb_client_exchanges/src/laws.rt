@@ -6,7 +6,7 @@ ghost use Rattle.krb_client.specs.Client.{ClientRecord, CredentialRecord};
 ghost use Rattle.krb_client.specs.declared.by_key.ByKey.{ByKey};
 ghost use Rattle.krb_client_exchanges.specs.AnswerHints.{hint_in_answer};
 ghost use Rattle.krb_client_exchanges.specs.Events.{Event, requests};
-ghost use Rattle.krb_client_exchanges.specs.Logins.{login_by_keytab, login_by_means, login_by_password, ticket_for};
+ghost use Rattle.krb_client_exchanges.specs.Logins.{login_by_keytab, login_by_means, login_by_password, renewed_ticket, ticket_for};
 ghost use Rattle.krb_client_exchanges.specs.SharedKeys.{keyed_by_password};
 ghost use Rattle.krb_client_exchanges.specs.declared.answer.AnswerHint.{AnswerHint};
 ghost use Rattle.krb_client_exchanges.specs.declared.fault.ExchangeFault.{ExchangeFault};
@@ -45,8 +45,8 @@ pub fn no_error_weakens()
     ensures strong { (suites : List CipherSuite) (bytes : Bytes) (hint : KeyHint) → (error_hint suites bytes).gives (Ok hint) → weakest suites ≤ strength hint.suite }
 {}
 
-/// No KDC gets more than two requests of a login by password or keytab, and more than one of a login by other means or of a request for a
-/// ticket.
+/// No KDC gets more than two requests of a login by password or keytab, and more than one of a login by other means, of a request for a
+/// ticket or of a renewal.
 pub fn few_requests<M: Means, F>(means: &M)
     ensures password { (client : ClientRecord) (wanted : Wanted) (password : Bytes) (events : List (Event F)) (outcome : Result CredentialRecord (ExchangeFault F))
         → login_by_password client wanted password events outcome → length (requests events) ≤ 2 }
@@ -56,6 +56,8 @@ pub fn few_requests<M: Means, F>(means: &M)
         → login_by_means client suites (M.means means.now) events outcome → length (requests events) ≤ 1 }
     ensures ticket { (client : ClientRecord) (suites : List CipherSuite) (credential : CredentialRecord) (service : List Bytes) (events : List (Event F)) (outcome : Result CredentialRecord (ExchangeFault F))
         → ticket_for client suites credential service events outcome → length (requests events) ≤ 1 }
+    ensures renewal { (client : ClientRecord) (suites : List CipherSuite) (credential : CredentialRecord) (events : List (Event F)) (outcome : Result CredentialRecord (ExchangeFault F))
+        → renewed_ticket client suites credential events outcome → length (requests events) ≤ 1 }
 {
     let _means = means;
 }
@@ -70,6 +72,8 @@ pub fn wanted_session_keys<M: Means, F>(means: &M)
         → login_by_means client suites (M.means means.now) events (Ok credential) → is_one_of suites credential.suite ≡ true }
     ensures ticket { (client : ClientRecord) (suites : List CipherSuite) (granting : CredentialRecord) (service : List Bytes) (events : List (Event F)) (credential : CredentialRecord)
         → ticket_for client suites granting service events (Ok credential) → is_one_of suites credential.suite ≡ true }
+    ensures renewal { (client : ClientRecord) (suites : List CipherSuite) (granting : CredentialRecord) (events : List (Event F)) (credential : CredentialRecord)
+        → renewed_ticket client suites granting events (Ok credential) → is_one_of suites credential.suite ≡ true }
 {
     let _means = means;
 }

@@ -3,15 +3,17 @@ ghost use Rattle.std.specs.Prelude.{◌≡◌, IfOk};
 ghost use Rattle.krb_realm_accounts.specs.Names.{parts};
 ghost use Rattle.krb_messages.specs.RandomBytes.{AreEnoughForRequest};
 ghost use Rattle.krb_client_exchanges.specs.Courses.{Runs, began};
-ghost use Rattle.krb_client_exchanges.specs.RequestKinds.{IsMadeAt, as_request_by, exchange, first_as_request, tgs_request_by};
+ghost use Rattle.krb_client_exchanges.specs.RequestKinds.{IsMadeAt, as_request_by, exchange, first_as_request, renewal_request_by, tgs_request_by};
 ghost use Rattle.krb_client_exchanges.specs.Taking.{not_asked, octets_first, octets_last, posted};
 
-use crate::asking::first_request;
+use crate::asking::first_request_with;
 use crate::fault::{ExchangeFault, LoginRefusal};
 use crate::kdc::Kdc;
 use crate::names::granting_service;
 use crate::occasion::Occasion;
-use krb_client::{AsAsked, AskRefusal, Client, Credential, Means, TgsAsked, TicketRequest};
+use krb_client::{
+    AsAsked, AskRefusal, Client, Credential, Means, TgsAsked, TicketOptions, TicketRequest,
+};
 use krb_crypto::CipherSuite;
 use std::alloc::Global;
 
@@ -62,6 +64,24 @@ pub(crate) fn ask_by_ticket<K: Kdc>(
         alloc,
         kdc,
         by_ticket_at(alloc, client, suites, credential, service, &occasion),
+    )
+}
+
+/// Sends a TGS request to renew the ticket of a credential.
+pub(crate) fn ask_to_renew<K: Kdc>(
+    alloc: Global,
+    kdc: &mut K,
+    client: &Client,
+    suites: &[CipherSuite],
+    credential: &Credential,
+) -> Result<(TgsAsked, Vec<u8>), ExchangeFault<K::Fault>>
+    ensures { Runs (K.events kdc.old) (K.events kdc.new) (exchange (renewal_request_by client.now suites.now credential.now)) (octets_last result) }
+{
+    let occasion = begin(alloc, kdc)?;
+    send(
+        alloc,
+        kdc,
+        renewal_at(alloc, client, suites, credential, &occasion),
     )
 }
 
@@ -120,7 +140,7 @@ fn first_at(
         moment: occasion.moment,
         words: &occasion.words,
     };
-    first_request(alloc, client, suites, &request)
+    first_request_with(alloc, client, suites, occasion.options, &request)
 }
 
 // The request by the means at an occasion.
@@ -142,7 +162,7 @@ fn by_means_at<M: Means>(
         moment: occasion.moment,
         words: &occasion.words,
     };
-    client.as_request_of_suites(alloc, means, suites, &request)
+    client.as_request_with(alloc, means, suites, occasion.options, &request)
 }
 
 // The request by a credential at an occasion.
@@ -164,4 +184,27 @@ fn by_ticket_at(
         words: &occasion.words,
     };
     client.tgs_request_of_suites(alloc, credential, suites, &request)
+}
+
+// The request to renew the ticket of a credential at an occasion.
+fn renewal_at(
+    alloc: Global,
+    client: &Client,
+    suites: &[CipherSuite],
+    credential: &Credential,
+    occasion: &Occasion,
+) -> Result<(Vec<u8>, TgsAsked), AskRefusal>
+    requires { AreEnoughForRequest occasion.now.words }
+    ensures { IsMadeAt (renewal_request_by client.now suites.now credential.now) occasion.now (octets_first result) }
+{
+    client.is_well_formed();
+    let service = granting_service(alloc, client)?;
+    let options = TicketOptions::renewal(credential.flags());
+    let request = TicketRequest {
+        service: &service,
+        till: occasion.till,
+        moment: occasion.moment,
+        words: &occasion.words,
+    };
+    client.tgs_request_with(alloc, credential, suites, options, &request)
 }

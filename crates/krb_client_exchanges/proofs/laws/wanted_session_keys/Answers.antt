@@ -1,4 +1,4 @@
-use Rattle.krb_client_exchanges.proofs.Grantings.{of_keytab, of_means, of_password, of_ticket}
+use Rattle.krb_client_exchanges.proofs.Grantings.{of_keytab, of_means, of_password, of_renewal, of_ticket}
 use Rattle.krb_client_exchanges.proofs.laws.wanted_session_keys.Goals as goal
 
 pub returns-clause-password : goal.returns-clause-password
@@ -12,3 +12,6 @@ returns-clause-means g c = λ client suites. of_means client suites (g.M.Means.m
 
 pub returns-clause-ticket : goal.returns-clause-ticket
 returns-clause-ticket g c = of_ticket
+
+pub returns-clause-renewal : goal.returns-clause-renewal
+returns-clause-renewal g c = of_renewal
