@@ -1,8 +1,9 @@
 //! The arguments of a login.
 
 use crate::environment::{default_cache, default_realm};
+use crate::held::{Held, held_in};
 use krb_account_texts::suite_named;
-use krb_client::{AskRefusal, Client};
+use krb_client::{AskRefusal, Client, Credential};
 use krb_client_exchanges::Wanted;
 use krb_commands::{Given, Stop, given_of, is_word, principal_in, usage};
 use krb_crypto::CipherSuite;
@@ -13,15 +14,27 @@ use picky_asn1_der::both;
 use std::alloc::Global;
 
 /// The options that have a value.
-const OPTIONS: [&str; 11] = [
-    "-k", "-p", "-C", "-K", "-A", "-c", "-e", "-s", "-l", "-r", "-t",
+const OPTIONS: [&str; 12] = [
+    "-k", "-p", "-C", "-K", "-A", "-c", "-e", "-s", "-l", "-L", "-r", "-t",
 ];
 
-/// The option that has none: the program says what it asks and what the KDC answers.
+/// The options that have none.
 const VERBOSE: &str = "-v";
+
+const FORWARDABLE: &str = "-f";
+
+const PROXIABLE: &str = "-P";
+
+const RENEWAL: &str = "-R";
 
 /// The random octets, if no file is given.
 const WORDS: &str = "/dev/urandom";
+
+/// What a renewal has none of.
+const NOT_RENEWED: [&str; 6] = ["-k", "-p", "-C", "-K", "-A", "-L"];
+
+/// What a renewal is called, which names no user.
+const RENEWED: &str = "the ticket-granting ticket";
 
 /// What the arguments have to name.
 pub(crate) const ONE_MEANS: &str =
@@ -64,6 +77,8 @@ pub(crate) struct Login<'a> {
     pub(crate) cache: String,
     /// The suites that the user named, or none.
     chosen: Vec<CipherSuite>,
+    /// The paths of the files that it reads.
+    pub(crate) read: [&'a str; 4],
     pub(crate) settings: Settings<'a>,
 }
 
@@ -95,40 +110,85 @@ pub(crate) struct Service<'a> {
 /// The values of the options but `-c`, `-e` and `-s`.
 #[derive(Clone, Copy)]
 pub(crate) struct Settings<'a> {
-    /// How the client authenticates itself.
-    pub(crate) means: Means<'a>,
     /// The lifetime that is requested for tickets, in seconds.
     pub(crate) lifetime: u64,
+    /// For how many seconds the ticket-granting ticket is to be renewable, if it is to be.
+    pub(crate) renew_life: Option<u64>,
     /// The path of the random octets.
     pub(crate) words: &'a str,
     /// The moment of each request, if it isn't the clock's.
     pub(crate) moment: Option<Moment>,
-    /// Whether it says what it asks and what the KDC answers.
-    pub(crate) is_verbose: bool,
+    /// The options that have no value.
+    pub(crate) flags: Flags,
 }
 
-/// Arguments without the option `-v`, and whether it was among them.
+/// Which of the options that have no value are given.
+#[derive(Clone, Copy)]
+pub(crate) struct Flags {
+    /// `-v`: it says what it asks and what the KDC answers.
+    pub(crate) is_verbose: bool,
+    /// `-f`: the ticket-granting ticket is to be forwardable.
+    pub(crate) is_forwardable: bool,
+    /// `-P`: it is to be proxiable.
+    pub(crate) is_proxiable: bool,
+    /// `-R`: the ticket-granting ticket of the cache is to be renewed.
+    pub(crate) is_renewal: bool,
+}
+
+impl Flags {
+    // None of them.
+    fn none() -> Flags {
+        Flags {
+            is_verbose: false,
+            is_forwardable: false,
+            is_proxiable: false,
+            is_renewal: false,
+        }
+    }
+
+    // These with the one that an argument is, if it is one.
+    fn with(self, argument: &String) -> Option<Flags> {
+        let mut flags = self;
+        if is_word(argument, VERBOSE) {
+            flags.is_verbose = true;
+        } else if is_word(argument, FORWARDABLE) {
+            flags.is_forwardable = true;
+        } else if is_word(argument, PROXIABLE) {
+            flags.is_proxiable = true;
+        } else if is_word(argument, RENEWAL) {
+            flags.is_renewal = true;
+        } else {
+            return None;
+        }
+        Some(flags)
+    }
+}
+
+/// Arguments without the options that have no value, and which of these were among them.
 #[derive(Drop)]
 pub(crate) struct Arguments {
     pub(crate) words: Vec<String>,
-    pub(crate) is_verbose: bool,
+    pub(crate) flags: Flags,
 }
 
-/// Takes the option `-v` out of arguments. The value of another option isn't one.
-pub(crate) fn without_flag(alloc: Global, arguments: Vec<String>) -> Result<Arguments, Stop> {
+/// Takes the options that have no value out of arguments. The value of another option isn't one.
+pub(crate) fn without_flags(alloc: Global, arguments: Vec<String>) -> Result<Arguments, Stop> {
     let mut words = Vec::new(alloc);
-    let mut is_verbose = false;
+    let mut flags = Flags::none();
     let mut is_value = false;
     for argument in arguments {
-        let is_flag = !is_value && is_word(&argument, VERBOSE);
-        is_value = !is_value && takes_value(&argument);
-        if is_flag {
-            is_verbose = true;
+        let more = if is_value {
+            None
         } else {
-            words.push(argument)?;
+            flags.with(&argument)
+        };
+        is_value = !is_value && takes_value(&argument);
+        match more {
+            Some(more) => flags = more,
+            None => words.push(argument)?,
         }
     }
-    Ok(Arguments { words, is_verbose })
+    Ok(Arguments { words, flags })
 }
 
 // Whether an argument is an option that has a value.
@@ -136,38 +196,103 @@ fn takes_value(argument: &String) -> bool {
     OPTIONS.iter().any(|option| is_word(argument, option))
 }
 
-/// The login of these arguments, and of the environment where they leave something out.
-pub(crate) fn login_of<'a>(rt: &HostRuntime, arguments: &'a Arguments) -> Result<Login<'a>, Stop> {
-    let alloc = rt.alloc();
-    let given = given_of(alloc, &OPTIONS, arguments.words.as_slice())?;
-    let settings = settings_of(alloc, &given, arguments.is_verbose);
-    let files = both(cache_of(rt, &given), chosen_of(alloc, &given));
-    let ((settings, files), user) = both(both(settings, files), user_of(rt, &given))?;
-    let services = services_of(alloc, &user.client, &given);
-    let ((user, (cache, chosen)), services) = both(Ok((user, files)), services)?;
+/// The login of these arguments, and of the environment where they leave something out, and how the client authenticates itself.
+pub(crate) fn login_of<'a>(
+    rt: &HostRuntime,
+    arguments: &'a Arguments,
+) -> Result<(Login<'a>, Means<'a>), Stop> {
+    let given = given_of(rt.alloc(), &OPTIONS, arguments.words.as_slice())?;
+    let means = means_of(rt.alloc(), &given)?;
+    let settings = settings_of(rt.alloc(), &given, arguments.flags)?;
+    let (cache, user) = both(cache_of(rt, &given), user_of(rt, &given))?;
+    let read = files_read(means, settings.words);
+    let login = login_by(rt.alloc(), &given, settings, cache, user, read)?;
+    Ok((login, means))
+}
+
+/// The renewal of these arguments: a login of the cache's user, and the credential that is renewed.
+pub(crate) fn renewal_of<'a>(
+    rt: &HostRuntime,
+    arguments: &'a Arguments,
+) -> Result<(Login<'a>, Credential), Stop> {
+    let given = given_of(rt.alloc(), &OPTIONS, arguments.words.as_slice())?;
+    is_renewal(rt.alloc(), &given, arguments.flags)?;
+    let settings = settings_of(rt.alloc(), &given, arguments.flags)?;
+    let cache = cache_of(rt, &given)?;
+    let Held { client, credential } = held_in(rt, cache.as_str())?;
+    let user = User {
+        argument: RENEWED,
+        client,
+    };
+    let login = login_by(
+        rt.alloc(),
+        &given,
+        settings,
+        cache,
+        user,
+        [settings.words; 4],
+    );
+    both(login, Ok(credential))
+}
+
+// Whether nothing is given that a renewal can't have: it has the user and the flags of the cache's ticket.
+fn is_renewal(alloc: Global, given: &Given<'_>, flags: Flags) -> Result<(), Stop> {
+    let mut is_other = flags.is_forwardable || flags.is_proxiable || !given.words().is_empty();
+    for option in NOT_RENEWED {
+        is_other = is_other || !given.values(alloc, option)?.is_empty();
+    }
+    if is_other {
+        return Err(usage(
+            alloc,
+            "-R: expected no USER, MEANS, -f, -P or -L: they are those of the cache's ticket",
+        ));
+    }
+    Ok(())
+}
+
+fn login_by<'a>(
+    alloc: Global,
+    given: &Given<'a>,
+    settings: Settings<'a>,
+    cache: String,
+    user: User<'a>,
+    read: [&'a str; 4],
+) -> Result<Login<'a>, Stop> {
+    let chosen = chosen_of(alloc, given);
+    let services = services_of(alloc, &user.client, given);
+    let ((user, cache), (chosen, services)) = both(Ok((user, cache)), both(chosen, services))?;
     Ok(Login {
         user,
         services,
         cache,
         chosen,
+        read,
         settings,
     })
 }
 
-fn settings_of<'a>(
-    alloc: Global,
-    given: &Given<'a>,
-    is_verbose: bool,
-) -> Result<Settings<'a>, Stop> {
+// The paths of the files that a login reads.
+fn files_read<'a>(means: Means<'a>, words: &'a str) -> [&'a str; 4] {
+    match means {
+        Means::Key(KeyFile::Keytab(path) | KeyFile::Password(path)) => [path, path, path, words],
+        Means::Certificate(files) => [files.certificate, files.key, files.anchor, words],
+    }
+}
+
+fn settings_of<'a>(alloc: Global, given: &Given<'a>, flags: Flags) -> Result<Settings<'a>, Stop> {
     let words = both(given.value(alloc, "-r"), given.moment(alloc, "-t"));
-    let numbers = both(lifetime_of(alloc, given), words);
-    let (means, (lifetime, (words, moment))) = both(means_of(alloc, given), numbers)?;
+    let lives = both(
+        seconds_in(alloc, given, "-l"),
+        seconds_in(alloc, given, "-L"),
+    );
+    let numbers = both(lives, words);
+    let ((lifetime, renew_life), (words, moment)) = numbers?;
     Ok(Settings {
-        means,
-        lifetime,
+        lifetime: lifetime.unwrap_or(USUAL_LIFETIME),
+        renew_life,
         words: words.unwrap_or(WORDS),
         moment,
-        is_verbose,
+        flags,
     })
 }
 
@@ -265,16 +390,16 @@ fn path_of(word: &str) -> &str {
     word.strip_prefix("FILE:").unwrap_or(word)
 }
 
-fn lifetime_of(alloc: Global, given: &Given<'_>) -> Result<u64, Stop> {
-    let lifetime = match given.value(alloc, "-l")? {
-        Some(word) => word.parse::<u64>(),
-        None => Ok(USUAL_LIFETIME),
+// The seconds that an option has as its value, if it is given.
+fn seconds_in(alloc: Global, given: &Given<'_>, option: &str) -> Result<Option<u64>, Stop> {
+    let Some(word) = given.value(alloc, option)? else {
+        return Ok(None);
     };
-    match lifetime {
-        Ok(seconds) if 0 < seconds && seconds <= LIFETIME_LIMIT => Ok(seconds),
+    match word.parse::<u64>() {
+        Ok(seconds) if 0 < seconds && seconds <= LIFETIME_LIMIT => Ok(Some(seconds)),
         _ => Err(usage(
             alloc,
-            "-l: expected a whole number of seconds from 1 to 31536000",
+            format_args!("{option}: expected a whole number of seconds from 1 to 31536000"),
         )),
     }
 }

@@ -2,8 +2,9 @@
 ghost use Rattle.std.specs.Prelude.{None};
 
 use crate::PROGRAM;
-use crate::arguments::Settings;
+use crate::arguments::{Flags, Settings};
 use crate::reports::{Expected, hint_text, outcome_text};
+use krb_client::TicketOptions;
 use krb_client_exchanges::{HintRefusal, Kdc, Occasion, hint_in_answer};
 use krb_commands::{RandomFile, Stop, failed, moment_or_now};
 use krb_crypto::CipherSuite;
@@ -23,8 +24,10 @@ pub(crate) struct KdcPipe<'a> {
     set_moment: Option<Moment>,
     /// For how many seconds tickets are asked for.
     lifetime: u64,
-    /// Whether it says what it asks and what the KDC answers.
-    is_verbose: bool,
+    /// For how many seconds the ticket-granting ticket is to be renewable, if it is to be.
+    renew_life: Option<u64>,
+    /// What else is asked of it, and whether the program says what it asks.
+    flags: Flags,
     /// The argument that names the user or the service of the next request.
     name: &'a str,
     /// The next request.
@@ -48,7 +51,8 @@ impl<'a> KdcPipe<'a> {
             words,
             set_moment: settings.moment,
             lifetime: settings.lifetime,
-            is_verbose: settings.is_verbose,
+            renew_life: settings.renew_life,
+            flags: settings.flags,
             name,
             expected,
         })
@@ -58,6 +62,21 @@ impl<'a> KdcPipe<'a> {
     pub(crate) fn expect(&mut self, name: &'a str, expected: Expected<'a>) {
         self.name = name;
         self.expected = expected;
+    }
+
+    // What an AS request at this moment asks of the ticket-granting ticket.
+    fn options_at(&self, alloc: Global, moment: Moment) -> Result<TicketOptions, Stop> {
+        let rtime = match self.renew_life {
+            Some(seconds) => Some(end_after(alloc, moment, seconds, "-L")?.second()),
+            None => None,
+        };
+        Ok(TicketOptions {
+            forwardable: self.flags.is_forwardable,
+            proxiable: self.flags.is_proxiable,
+            renewable: rtime.is_some(),
+            renews: false,
+            rtime,
+        })
     }
 
     // Says a line on standard error. It shows no secret.
@@ -125,23 +144,34 @@ impl<'a> Kdc for KdcPipe<'a> {
     fn occasion(&mut self, alloc: Global) -> Result<Occasion, Stop> {
         let moment = moment_or_now(self.rt, self.set_moment)?;
         let words = self.words.take_words(alloc, "request")?;
-        let micros = self.lifetime.saturating_mul(MICROSECONDS_IN_SECOND);
-        match Moment::new(moment.micros().saturating_add(micros)) {
-            Some(end) => Ok(Occasion {
-                moment,
-                till: end.second(),
-                words,
-            }),
-            None => Err(failed(alloc, "-l: expected an end before the year 10000")),
-        }
+        let till = end_after(alloc, moment, self.lifetime, "-l")?.second();
+        let options = self.options_at(alloc, moment)?;
+        Ok(Occasion {
+            moment,
+            till,
+            options,
+            words,
+        })
     }
 
     fn ask(&mut self, alloc: Global, request: &[u8]) -> Result<Vec<u8>, Stop> {
         let reply = self.reply(alloc, request)?;
-        if self.is_verbose {
+        if self.flags.is_verbose {
             self.report(alloc, &reply)?;
         }
         Ok(reply)
+    }
+}
+
+// The moment that is so many seconds after this one. The option says how many.
+fn end_after(alloc: Global, moment: Moment, seconds: u64, option: &str) -> Result<Moment, Stop> {
+    let micros = seconds.saturating_mul(MICROSECONDS_IN_SECOND);
+    match Moment::new(moment.micros().saturating_add(micros)) {
+        Some(end) => Ok(end),
+        None => Err(failed(
+            alloc,
+            format_args!("{option}: expected an end before the year 10000"),
+        )),
     }
 }
 

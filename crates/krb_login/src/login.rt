@@ -1,6 +1,6 @@
 //! A login, from its arguments to the cache.
 
-use crate::arguments::{KeyFile, Login, Means, Service, Settings};
+use crate::arguments::{Login, Means, Service};
 use crate::certified::{Certified, certified_in};
 use crate::kdc::KdcPipe;
 use crate::refusals::stop_of;
@@ -9,7 +9,7 @@ use crate::secret::{Secret, secret_of};
 use krb_client::Credential;
 use krb_client_exchanges::{
     ExchangeFault, cache_of, log_in_by_certificate, log_in_by_keytab, log_in_by_password,
-    ticket_for,
+    renewed_ticket, ticket_for,
 };
 use krb_commands::{FileKind, Stop, begin, refused, write_file};
 use krb_file_formats::CacheWriteFault;
@@ -17,11 +17,10 @@ use std::alloc::Global;
 
 /// Gets the tickets of a login, and writes the cache. It begins with a file beside the cache, which it takes away again: where none can be
 /// made, or what is there is no cache, no KDC is asked.
-pub(crate) fn log_in(rt: &HostRuntime, login: &Login<'_>) -> Result<(), Stop> {
-    let read = files_read(&login.settings);
-    let place = begin(rt, login.cache.as_str(), FileKind::Cache, &read)?;
+pub(crate) fn log_in(rt: &HostRuntime, login: &Login<'_>, means: Means<'_>) -> Result<(), Stop> {
+    let place = begin(rt, login.cache.as_str(), FileKind::Cache, &login.read)?;
     place.discard(rt);
-    match login.settings.means {
+    match means {
         Means::Key(file) => {
             let secret = secret_of(rt, login, file)?;
             let outcome = log_in_by_key(rt, login, &secret);
@@ -35,6 +34,24 @@ pub(crate) fn log_in(rt: &HostRuntime, login: &Login<'_>) -> Result<(), Stop> {
             outcome
         }
     }
+}
+
+/// Renews the ticket-granting ticket of the cache, gets the service tickets by the renewed one, and writes the cache anew. It begins as a
+/// login.
+pub(crate) fn renew(
+    rt: &HostRuntime,
+    login: &Login<'_>,
+    credential: &Credential,
+) -> Result<(), Stop> {
+    let place = begin(rt, login.cache.as_str(), FileKind::Cache, &login.read)?;
+    place.discard(rt);
+    let suites = login.wanted().suites();
+    let name = login.user.argument;
+    let mut kdc = KdcPipe::open(rt, &login.settings, name, Expected::Renewal(suites))?;
+    let client = &login.user.client;
+    let granted = renewed_ticket(rt.alloc(), &mut kdc, client, login.wanted(), credential);
+    let granting = of_exchange(rt.alloc(), login, name, granted)?;
+    log_in_with(rt, &mut kdc, login, &granting)
 }
 
 fn log_in_by_key(rt: &HostRuntime, login: &Login<'_>, secret: &Secret) -> Result<(), Stop> {
@@ -101,17 +118,13 @@ fn log_in_with<'a>(
     let further = tickets(rt.alloc(), kdc, login, granting)?;
     let octets = cached(rt.alloc(), login, granting, &further);
     drop(further);
-    let read = files_read(&login.settings);
-    write_file(rt, login.cache.as_str(), FileKind::Cache, &read, &octets?)
-}
-
-// The paths of the files that a login reads.
-fn files_read<'a>(settings: &Settings<'a>) -> [&'a str; 4] {
-    let words = settings.words;
-    match settings.means {
-        Means::Key(KeyFile::Keytab(path) | KeyFile::Password(path)) => [path, path, path, words],
-        Means::Certificate(files) => [files.certificate, files.key, files.anchor, words],
-    }
+    write_file(
+        rt,
+        login.cache.as_str(),
+        FileKind::Cache,
+        &login.read,
+        &octets?,
+    )
 }
 
 // A ticket for each service, in their order.

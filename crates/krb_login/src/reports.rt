@@ -19,6 +19,8 @@ pub(crate) enum Expected<'a> {
     Certificate(&'a [CipherSuite]),
     /// The one for a service ticket.
     Ticket(&'a [CipherSuite]),
+    /// The one to renew a ticket-granting ticket.
+    Renewal(&'a [CipherSuite]),
 }
 
 impl Expected<'_> {
@@ -29,15 +31,17 @@ impl Expected<'_> {
             Expected::Timestamp(_) => "AS-REQ with an encrypted timestamp",
             Expected::Certificate(_) => "AS-REQ by certificate",
             Expected::Ticket(_) => "TGS-REQ",
+            Expected::Renewal(_) => "TGS-REQ to renew",
         }
     }
 
     /// The names of its suites, with blanks between them.
     pub(crate) fn suites_text(self, alloc: Global) -> Result<String, AllocError> {
         match self {
-            Expected::First(suites) | Expected::Certificate(suites) | Expected::Ticket(suites) => {
-                suites_text(alloc, suites)
-            }
+            Expected::First(suites)
+            | Expected::Certificate(suites)
+            | Expected::Ticket(suites)
+            | Expected::Renewal(suites) => suites_text(alloc, suites),
             Expected::Timestamp(suite) => suites_text(alloc, &[suite]),
         }
     }
