@@ -1,0 +1,222 @@
+#!/bin/sh
+# Forwardable, proxiable and renewable tickets, and renewals. MIT's and Heimdal's clients ask for them at krb_kdcd behind krb_listen, in a
+# realm whose policy grants them. For comparison MIT's clients ask at krb5kdc too, and Heimdal's at Heimdal's kdc. krb_login asks at all
+# three: it renews the tickets of MIT's kinit, which renews those of krb_login. klist says which flags and which renew-till the tickets
+# have. What isn't renewable is refused, and so is a ticket whose renew-till is past. Prints what each gave; the status is 1 where one
+# differs from what it should, and 2 where a tool is missing. All files are in a temporary folder, and what is started is ended.
+#
+# Usage: examples/renewals.sh [realm|mit|heimdal..]: at all three KDCs, or at those that are named. KRB_LOGIN, KRB_KDCD and KRB_ACCOUNTS may
+# name programs that are built already. HEIMDAL is as in real_clients.sh. NO_LOGIN=1 leaves krb_login out.
+set -u
+script=renewals
+top=$(cd "$(dirname "$0")/.." && pwd)
+work=$(mktemp -d)
+bridge=
+trap 'kill $bridge 2>/dev/null; rm -rf "$work"' EXIT
+trap 'exit 1' INT TERM
+. "$top/examples/stock.sh"
+. "$top/bench/programs.sh"
+week=604800
+
+[ $# -gt 0 ] || set -- realm mit heimdal
+for kdc in "$@"; do
+    case $kdc in
+        realm) ;;
+        mit)
+            need krb5kdc krb5-kdc
+            need kadmin.local krb5-admin-server
+            ;;
+        heimdal) ;;
+        *) echo "renewals: $kdc: expected realm, mit or heimdal" >&2 && exit 2 ;;
+    esac
+done
+need python3 python3
+need kinit krb5-user
+need kvno krb5-user
+[ "$missing" -eq 0 ] || exit 2
+[ -n "${NO_LOGIN:-}" ] || program KRB_LOGIN krb_login
+case " $* " in
+    *" realm "* | *" heimdal "*)
+        fetch_heimdal kinit.heimdal heimdal-clients heimdal-kdc
+        heimdal_kdc=$(ls "$heimdal_folder/usr/lib/heimdal-servers/kdc" /usr/lib/heimdal-servers/kdc 2>/dev/null | head -n 1)
+        ;;
+esac
+
+heimdal() {
+    KRB5_CONFIG=$work/heimdal.conf KRB5CCNAME=FILE:$work/heimdal.tickets TZ=UTC LD_LIBRARY_PATH=$libraries "$@"
+}
+
+# login ARGUMENT..: krb_login at the KDC, with the cache of MIT's clients.
+login() {
+    "$top/bridges/krb_connect" "127.0.0.1:$port" -- "$KRB_LOGIN" -c "$work/mit.tickets" "$@"
+}
+
+# flags SERVICE: the flags of the cache's ticket for the service, by MIT's klist, and whether it is renewable.
+flags() {
+    mit klist -f | awk -v service="$1@EXAMPLE.COM" '
+        index($0, service) == length($0) - length(service) + 1 && /^[0-9]/ { own = 1; next }
+        own && match($0, /Flags: [A-Za-z]+/) { print substr($0, RSTART + 7, RLENGTH - 7) (/renew until/ ? " renewable" : ""); exit }
+        /^[0-9]/ { own = 0 }'
+}
+
+# has SERVICE FLAGS: the ticket for the service has these flags, and no other.
+has() {
+    mit klist -f
+    had=$(flags "$1")
+    echo "flags of $1: $had"
+    [ "$had" = "$2" ]
+}
+
+# The renew-till of the ticket-granting ticket, by klist.
+renew_till() {
+    mit klist | sed -n 's/.*renew until //p' | head -n 1
+}
+
+# The renewed ticket has the renew-till of the one before it, and another starttime.
+renews() {
+    before=$(renew_till) start=$(mit klist | sed -n '/krbtgt/s/^\([^ ]* [^ ]*\) .*/\1/p')
+    sleep 1.1
+    "$@" || return 1
+    mit klist -f
+    [ "$(renew_till)" = "$before" ] && [ "$(mit klist | sed -n '/krbtgt/s/^\([^ ]* [^ ]*\) .*/\1/p')" != "$start" ]
+}
+
+# Its renew-till passes, while a ticket that isn't renewed would still be taken.
+outlived() {
+    typed "$password" mit kinit -l 2s -r 4s user && sleep 5.5 && "$@"
+}
+
+# mit_clients FLAGS SERVICE_FLAGS RENEWED: what MIT's clients get.
+mit_clients() {
+    try "kinit -f -p -r 7d" yes "" typed "$password" mit kinit -f -p -r 7d user
+    try "its flags" yes "" has krbtgt/EXAMPLE.COM "$1 renewable"
+    try "kvno" yes "kvno = " mit kvno "host/$host"
+    try "the flags of the ticket for the service" yes "" has "host/$host" "$2"
+    try "kinit -R: a later start, and the same renew-till" yes "" renews mit kinit -R
+    try "the flags of the renewed ticket" yes "" has krbtgt/EXAMPLE.COM "$3 renewable"
+    try "kinit -R once more" yes "" renews mit kinit -R
+    try "kvno by the renewed ticket" yes "kvno = " mit kvno "host/$host"
+    try "kinit -f, and by renewable-ok up to a day" yes "" typed "$password" mit kinit -f user
+    try "its flags" yes "" has krbtgt/EXAMPLE.COM "FRIA renewable"
+    try "kinit -f, for five hours" yes "" typed "$password" mit kinit -f -l 5h user
+    try "its flags" yes "" has krbtgt/EXAMPLE.COM FIA
+    try "kinit -R of a ticket that isn't renewable" no "KDC can't fulfill requested option" mit kinit -R
+    try "kinit without options, for five hours" yes "" typed "$password" mit kinit -F -P -l 5h user
+    try "its flags" yes "" has krbtgt/EXAMPLE.COM IA
+    try "kinit -R after the renew-till" no "expired" outlived mit kinit -R
+}
+
+# heimdal_clients: what Heimdal's clients get.
+heimdal_clients() {
+    try "Heimdal: kinit, forwardable, proxiable and renewable" yes "" \
+        heimdal kinit.heimdal "--password-file=$work/password" --forwardable --proxiable --renewable-life=7d user@EXAMPLE.COM
+    try "its flags" yes "flags: .*initial, renewable, proxiable, forwardable" heimdal heimtools klist -v
+    try "Heimdal: kinit --renew" yes "" heimdal kinit.heimdal --renew
+    try "its flags" yes "flags: .*pre-authent, renewable, proxiable, forwardable" heimdal heimtools klist -v
+    try "Heimdal: kgetcred by the renewed ticket" yes "" heimdal kgetcred "host/$host@EXAMPLE.COM"
+}
+
+# logins FLAGS RENEWED: what krb_login gets.
+logins() {
+    [ -z "${NO_LOGIN:-}" ] || return
+    rm -f "$work/mit.tickets"
+    try "krb_login -f -P -L" yes "" login -p "$work/password" -f -P -L $week -s "host/$host" user@EXAMPLE.COM
+    try "its flags" yes "" has krbtgt/EXAMPLE.COM "$1 renewable"
+    try "krb_login -R: a later start, and the same renew-till" yes "" renews login -R
+    try "the flags of the renewed ticket" yes "" has krbtgt/EXAMPLE.COM "$2 renewable"
+    try "krb_login -R, with a ticket for the service" yes "" renews login -R -s "host/$host"
+    try "MIT's kinit -R of krb_login's ticket" yes "" renews mit kinit -R
+    try "krb_login -R of that ticket" yes "" renews login -R
+    try "kvno by the renewed ticket" yes "kvno = " mit kvno "host/$host"
+    try "krb_login without options" yes "" login -p "$work/password" user@EXAMPLE.COM
+    try "its flags" yes "" has krbtgt/EXAMPLE.COM IA
+    try "krb_login -R of a ticket that isn't renewable" no "KDC_ERR_BADOPTION (13)" login -R
+    try "kinit -f -r 7d" yes "" typed "$password" mit kinit -f -r 7d user
+    try "krb_login -R of that ticket" yes "" renews login -R
+    try "krb_login -R after the renew-till" no "KRB_AP_ERR_TKT_EXPIRED (32)" outlived login -R
+    try "krb_login -R with a password" no "expected no USER, MEANS, -f, -P or -L" login -R -p "$work/password"
+    try "krb_login -R without a cache" no "" login -R -c "$work/nothing"
+}
+
+realm_rows() {
+    program KRB_KDCD krb_kdcd
+    program KRB_ACCOUNTS krb_accounts
+    words="limits-des3,forwardable,proxiable,renewable=$week"
+    sed "s/^realm\t.*/realm\tEXAMPLE.COM\t300\t36000\t$words\t-/" "$top/examples/accounts" >"$work/accounts"
+    chmod 600 "$work/accounts"
+    if ! "$KRB_ACCOUNTS" make "$work/accounts" "$work/accounts.cdb" 2>"$work/warnings"; then
+        cat "$work/warnings" >&2
+        exit 2
+    fi
+    listen "$top/bridges/krb_listen" --listen 127.0.0.1:PORT --workers 2 -- "$KRB_KDCD" "$work/accounts.cdb" /dev/urandom --log
+    bridge=$started
+    configuration "127.0.0.1:$port" "" >"$work/mit.conf"
+    configuration "tcp/127.0.0.1:$port" "" >"$work/heimdal.conf"
+    # krb5kdc leaves a renewed ticket the flag initial, and sets transited-policy-checked in each ticket of a TGS exchange (T).
+    mit_clients FPRIA "FPRA renewable" FPRA
+    heimdal_clients
+    logins FPRIA FPRA
+}
+
+mit_rows() {
+    start_mit "max_life = 10h
+        max_renewable_life = 7d"
+    mit kadmin.local -q "addprinc -randkey host/$host" >>"$work/log" 2>&1
+    mit kadmin.local -q "addprinc +requires_preauth -pw \"$password\" user" >>"$work/log" 2>&1
+    mit kadmin.local -q "modprinc -maxrenewlife 7d krbtgt/EXAMPLE.COM" >>"$work/log" 2>&1
+    mit_clients FPRIA "FPRAT renewable" FPRIAT
+    logins FPRIA FPRIAT
+}
+
+start_heimdal() {
+    cat >"$work/heimdal.in" <<CONF
+[kdc]
+    database = {
+        dbname = $work/heimdal_db
+        realm = EXAMPLE.COM
+        mkey_file = $work/mkey
+        log_file = $work/heimdal_changes
+        acl_file = $work/acl
+    }
+    enable-pkinit = no
+    require-preauth = no
+[logging]
+    default = FILE:$work/heimdal.log
+CONF
+    configuration tcp/127.0.0.1:PORT "" >>"$work/heimdal.in"
+    cp "$work/heimdal.in" "$work/heimdal.conf"
+    kadmin_heimdal init --realm-max-ticket-life=10h --realm-max-renewable-life=7d EXAMPLE.COM >"$work/log" 2>&1
+    cat >"$work/start" <<START
+#!/bin/sh
+sed "s/PORT/\$1/" $work/heimdal.in >$work/heimdal.conf
+sed "s/PORT/\$1/; s|tcp/||" $work/heimdal.in >$work/mit.conf
+LD_LIBRARY_PATH=$libraries exec $heimdal_kdc --config-file=$work/heimdal.conf --ports=\$1/tcp --addresses=127.0.0.1
+START
+    chmod +x "$work/start"
+    listen "$work/start" PORT
+    bridge=$started
+}
+
+kadmin_heimdal() {
+    heimdal kadmin.heimdal -l "--config-file=$work/heimdal.conf" "$@"
+}
+
+heimdal_rows() {
+    start_heimdal
+    kadmin_heimdal add --random-key --use-defaults "host/$host" >>"$work/log" 2>&1
+    kadmin_heimdal add "--password=$password" --attributes=requires-pre-auth --use-defaults user >>"$work/log" 2>&1
+    heimdal_clients
+    logins FPRIA FPRA
+}
+
+echo "$password" >"$work/password"
+for kdc in "$@"; do
+    echo "==== $kdc"
+    "${kdc}_rows"
+    kill "$bridge"
+    wait "$bridge"
+    bridge=
+done
+
+echo "$passed right, $failed wrong"
+[ "$failed" -eq 0 ]
