@@ -206,7 +206,7 @@ heimdal_rows() {
     kadmin_heimdal add --random-key --use-defaults "host/$host" >>"$work/log" 2>&1
     kadmin_heimdal add "--password=$password" --attributes=requires-pre-auth --use-defaults user >>"$work/log" 2>&1
     heimdal_clients
-    logins FPRIA FPRA
+    logins FPRIA FPRAT
 }
 
 echo "$password" >"$work/password"
