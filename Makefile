@@ -12,7 +12,7 @@ CRATES := $(sort $(notdir $(patsubst %/src,%,$(wildcard crates/*/src))))
 REALM := out/realm
 
 .DEFAULT_GOAL := help
-.PHONY: help try messages certificate test listener imports programs check gate faults settings build install uninstall run clients passwords move logins pkinit gss initiator services bench plant fmt docs definitions budget crate-named kit-there port-free
+.PHONY: help try encodings test listener imports programs check gate faults settings build install uninstall run clients passwords move logins pkinit gss initiator services bench plant fmt docs definitions budget crate-named kit-there port-free
 
 help: ## list the targets
 	@sed -n 's/^\([a-z]*\):[^#]*## /\1\t/p' Makefile | expand -t 14
@@ -20,11 +20,8 @@ help: ## list the targets
 try: kit-there ## run a recorded request, and logins by password and by certificate, without proof: some minutes
 	cd crates/example_login && $(TRY) $(foreach file,$(notdir $(wildcard crates/example_login/data/*.pem crates/example_login/data/*.key)),--data $(file)=data/$(file)) </dev/null
 
-messages: kit-there ## read, change and write messages through picky_krb, without proof: one minute
-	cd crates/example_messages && $(TRY) </dev/null
-
-certificate: kit-there ## read a certificate, without proof: one minute
-	cd crates/example_certificate && $(TRY) --data certificate.der=data/certificate.der </dev/null
+encodings: kit-there ## read, change and write messages through picky_krb, and read a certificate, without proof: two minutes
+	cd crates/example_encodings && $(TRY) --data certificate.der=data/certificate.der </dev/null
 
 test: kit-there $(if $(CRATE),crate-named,listener imports programs) ## run every test and program without proof, or those of one crate: make test CRATE=test_encodings; slow rows too: ROWS=all
 	RT="$(RT)" ROWS="$(ROWS)" tools/test $(CRATE)

@@ -1,12 +1,13 @@
-//! Reads a certificate, and prints the alternative names of its subject, and the bytes that its signature is over.
-#![tactic(auto)]
+//! The alternative names of a certificate's subject (RFC 5280, section 4.2.1.6), and the bytes that its signature is over.
 
+use crate::printing::print_bytes;
 use picky_asn1_x509::{Certificate, Extension, ExtensionView, GeneralName};
 use std::fs;
 
-fn main(rt: HostRuntime) -> anyhow::Result<()> {
-    let bytes = fs::read(&rt, "certificate.der")?;
-    print_certificate(&rt, &bytes)
+/// Reads the file `certificate.der`, and prints what its certificate has.
+pub fn show_certificate(rt: &HostRuntime) -> anyhow::Result<()> {
+    let bytes = fs::read(rt, "certificate.der")?;
+    print_certificate(rt, &bytes)
 }
 
 fn print_certificate(rt: &HostRuntime, bytes: &[u8]) -> anyhow::Result<()> {
@@ -40,11 +41,5 @@ fn print_names(rt: &HostRuntime, names: &[GeneralName]) -> anyhow::Result<()> {
 fn print_text(rt: &HostRuntime, kind: &str, text: &[u8]) -> anyhow::Result<()> {
     let text = str::from_utf8(text)?;
     println!(rt; "{kind}:{text}")?;
-    Ok(())
-}
-
-fn print_bytes(rt: &HostRuntime, bytes: &[u8]) -> anyhow::Result<()> {
-    let text = hex::encode(rt.alloc(), bytes)?;
-    println!(rt; "{text}")?;
     Ok(())
 }

@@ -1,16 +1,10 @@
-//! Reads, changes and writes messages of Kerberos (RFC 4120) through `picky_krb`.
+//! Messages of Kerberos (RFC 4120) read, changed and written through `picky_krb`.
 //!
 //! `picky_krb::from_bytes` reads a message that is the whole input; `picky_asn1_der::to_vec` writes one.
-//!
-//! What it has to print (`stdout`) comes from elsewhere. The request, and the KRB-ERROR that is made, are recorded in `clients.txt` of
-//! `replay_encodings`. The changed request is the recorded one with other octets in the place of `till`, by sed. The ticket's
-//! realm and kvno are those of `messages.cnf`, of which OpenSSL wrote it.
-#![tactic(auto)]
 
-mod error;
-
+use crate::error::unknown_client;
+use crate::printing::print_bytes;
 use anyhow::Context;
-use error::unknown_client;
 use picky_asn1::date::GeneralizedTime;
 use picky_asn1::wrapper::GeneralizedTimeAsn1;
 use picky_asn1_der::to_vec;
@@ -32,14 +26,15 @@ const TICKET: &str = concat!(
     "eeff",
 );
 
-fn main(rt: HostRuntime) -> anyhow::Result<()> {
+/// Reads and changes a request, reads a ticket, makes a KRB-ERROR, and prints what each has.
+pub fn show_messages(rt: &HostRuntime) -> anyhow::Result<()> {
     let request = hex::decode(rt.alloc(), REQUEST)?;
-    read_request(&rt, &request)?;
+    read_request(rt, &request)?;
     let ticket = hex::decode(rt.alloc(), TICKET)?;
-    read_ticket(&rt, &ticket)?;
+    read_ticket(rt, &ticket)?;
     let stime = time_of(b"20000101000000Z")?;
     let error = unknown_client(rt.alloc(), b"R", stime)?;
-    print_bytes(&rt, &error)
+    print_bytes(rt, &error)
 }
 
 /// Reads an AS-REQ, and changes it.
@@ -77,11 +72,6 @@ fn print_ticket(rt: &HostRuntime, ticket: &TicketInner) -> anyhow::Result<()> {
     if let Some(kvno) = &ticket.enc_part.0.kvno.0 {
         println!(rt; "kvno {}", kvno.0.to_i64().context("a kvno past 64 bits")?)?;
     }
-    Ok(())
-}
-
-fn print_bytes(rt: &HostRuntime, bytes: &[u8]) -> anyhow::Result<()> {
-    println!(rt; "{}", hex::encode(rt.alloc(), bytes)?)?;
     Ok(())
 }
 
