@@ -81,7 +81,7 @@ fn tell_answer(
     Ok(())
 }
 
-/// Tells the result code.
+/// Puts the result code into the row.
 fn tell_refusal(refusal: &ChangeRefusal, told: &mut Told) {
     match refusal {
         ChangeRefusal::Refused(code) => told.show(code),

@@ -41,7 +41,7 @@ fn tell_part(octets: &[u8], told: &mut Told) {
     }
 }
 
-/// Tells the parts of a frame, or the code that refuses it.
+/// Puts the parts of a frame into the row, or the code that refuses it.
 fn tell_read(alloc: Global, row: &mut Row<'_>, told: &mut Told) {
     let message = row.octets(alloc);
     match read_frame(&message) {
@@ -72,7 +72,7 @@ fn tell_refusal(refusal: FrameRefusal, told: &mut Told) {
     told.show(&refusal);
 }
 
-/// Tells the frame of two parts.
+/// Puts the frame of two parts into the row.
 fn tell_write(alloc: Global, row: &mut Row<'_>, told: &mut Told) {
     let version = version_in(row);
     let ap_message = row.octets(alloc);
@@ -101,7 +101,7 @@ fn tell_length(alloc: Global, row: &mut Row<'_>, told: &mut Told) {
     }
 }
 
-/// Tells the octets of a result code, named by its number, and a text.
+/// Puts the octets of a result code, named by its number, and a text into the row.
 fn tell_carried(alloc: Global, row: &mut Row<'_>, told: &mut Told) {
     let code = ResultCode::of_number(row.number());
     told.show(&code);
@@ -112,7 +112,7 @@ fn tell_carried(alloc: Global, row: &mut Row<'_>, told: &mut Told) {
     }
 }
 
-/// Tells the number and the text that octets carry.
+/// Puts the number and the text that octets carry into the row.
 fn tell_result(alloc: Global, row: &mut Row<'_>, told: &mut Told) {
     let octets = row.octets(alloc);
     match read_result(&octets) {

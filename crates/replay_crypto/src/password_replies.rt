@@ -60,7 +60,7 @@ impl Rows for Replies {
     }
 }
 
-/// Tells the reply to a request.
+/// Puts the reply to a request into the row.
 fn tell_reply(
     alloc: Global,
     service: &mut KeytabService,

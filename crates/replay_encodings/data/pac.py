@@ -330,7 +330,7 @@ def logon_rows(dice):
         row("logon", changed(large[:size], 8, struct.pack("<I", size - 16)) if size > 15 else large[:size])
     for size in range(236, len(large), 8):
         row("logon", changed(large[:size], 8, struct.pack("<I", size - 16)))
-    # Counts and pointers of 2^32 - 1 and of 0, one number for two pointers, and octets behind the value.
+    # Counts and pointers of 2^32 - 1 and of 0, one number for two pointers, and octets that follow the value.
     for place in range(16, 240, 4):
         row("logon", changed(small, place, b"\xff" * 4))
         row("logon", changed(small, place, bytes(4)))
