@@ -296,7 +296,7 @@ class Install(Copy):
 
     def test_without_the_kit(self):
         os.remove(f"{self.folder}/bin/rt")
-        for words in "build", "try", "messages", "test", "check CRATE=cdb", "gate", "settings FILE=examples/settings.toml":
+        for words in "build", "try", "encodings", "test", "check CRATE=cdb", "gate", "settings FILE=examples/settings.toml":
             _, said = self.make(*words.split(), status=2)
             self.assertIn("rt is missing: the command of Rattle's kit", said[0])
 
