@@ -1,12 +1,12 @@
 //! What requests ask of a ticket besides its end.
 ghost use Rattle.std.specs.Prelude.{◌≡◌, ◌≤◌, IfOk};
 ghost use Rattle.krb_tickets.specs.Parts.{masked};
-ghost use Rattle.krb_client.specs.Options.{front_octet, last_octet, options_of, plain_options, renewal_options, rtime_of, second_octet};
+ghost use Rattle.krb_client.specs.Options.{forwarding_options, front_octet, last_octet, options_of, plain_options, renewal_options, rtime_of, second_octet};
 
 use krb_constants::kdc_options;
 use krb_messages::data_types::{KerberosFlags, KerberosTime};
 use krb_tickets::flag_bits::{
-    FORWARDABLE, FORWARDABLE_MASK, PROXIABLE, PROXIABLE_MASK, RENEWABLE_MASK,
+    FORWARDABLE, FORWARDABLE_MASK, FORWARDED_MASK, PROXIABLE, PROXIABLE_MASK, RENEWABLE_MASK,
 };
 use picky_asn1::date::GeneralizedTime;
 use picky_asn1::wrapper::{BitStringAsn1, GeneralizedTimeAsn1};
@@ -16,12 +16,14 @@ use std::alloc::{AllocError, Global};
 /// The bit of renew in the last octet of kdc-options.
 pub const RENEW_MASK: u8 = 0x80 >> (kdc_options::RENEW - 24);
 
-/// What a request asks of a ticket besides its end: four of kdc-options, and rtime (RFC 4120, section 5.4.1). The KDC's policy decides what
+/// What a request asks of a ticket besides its end: five of kdc-options, and rtime (RFC 4120, section 5.4.1). The KDC's policy decides what
 /// of it is granted. The flags and the renew-till of the credential say what was.
 #[derive(Clone, Copy)]
 pub struct TicketOptions {
     /// The ticket is to be forwardable.
     pub forwardable: bool,
+    /// A ticket to be forwarded is asked for, by a forwardable one: an option of TGS requests alone.
+    pub forwards: bool,
     /// The ticket is to be proxiable.
     pub proxiable: bool,
     /// The ticket is to be renewable.
@@ -39,6 +41,7 @@ impl TicketOptions {
     {
         TicketOptions {
             forwardable: false,
+            forwards: false,
             proxiable: false,
             renewable: false,
             renews: false,
@@ -52,9 +55,24 @@ impl TicketOptions {
     {
         TicketOptions {
             forwardable: flags.bit(FORWARDABLE),
+            forwards: false,
             proxiable: flags.bit(PROXIABLE),
             renewable: true,
             renews: true,
+            rtime: None,
+        }
+    }
+
+    /// What a ticket to be forwarded is asked for by: forwarded, and forwardable, so that it may be forwarded again (RFC 4120, section 2.6).
+    pub fn forwarding() -> TicketOptions
+        ensures { result ≡ forwarding_options }
+    {
+        TicketOptions {
+            forwardable: true,
+            forwards: true,
+            proxiable: false,
+            renewable: false,
+            renews: false,
             rtime: None,
         }
     }
@@ -89,7 +107,9 @@ pub(crate) fn rtime_of(options: TicketOptions) -> Option<ExplicitContextTag6<Ker
 fn front_octet(options: TicketOptions) -> u8
     ensures { result ≡ front_octet options }
 {
-    masked(options.forwardable, FORWARDABLE_MASK) + masked(options.proxiable, PROXIABLE_MASK)
+    masked(options.forwardable, FORWARDABLE_MASK)
+        + masked(options.forwards, FORWARDED_MASK)
+        + masked(options.proxiable, PROXIABLE_MASK)
 }
 
 fn second_octet(options: TicketOptions) -> u8

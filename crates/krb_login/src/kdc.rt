@@ -75,6 +75,7 @@ impl<'a> KdcPipe<'a> {
             proxiable: self.flags.is_proxiable,
             renewable: rtime.is_some(),
             renews: false,
+            forwards: false,
             rtime,
         })
     }
