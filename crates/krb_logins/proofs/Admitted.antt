@@ -1,118 +1,20 @@
 -- The service of an honest login admits its client.
-use Rattle.std.proofs.Common.{◌≡◌, ◌/◌, ◌%◌, true, false, ◌∷◌, Option, None, Result, Ok, refl, sym, ap, subst, ◌∙◌}
-use Rattle.asn1_leaves.specs.declared.date.GeneralizedTime.{GeneralizedTime}
-use Rattle.picky_asn1.specs.Bytes.{Bytes}
-use Rattle.asn1_leaves.specs.GeneralizedTime.{seconds_of}
-use Rattle.krb_crypto.specs.Suites.{cipher_confounder_size}
-use Rattle.krb_messages.specs.Names.{components}
-use Rattle.krb_messages.specs.RandomBytes.{authenticator_confounder}
-use Rattle.krb_messages.specs.declared.data_types.authenticator.AuthenticatorInner.{AuthenticatorInner}
-use Rattle.krb_tickets.specs.Sealing.{encryption_key}
-use Rattle.krb_tickets.specs.Parts.{session_key_of, ticket_part}
-use Rattle.krb_tickets.specs.Grant.{GrantRecord}
-use Rattle.krb_kdc_exchanges.specs.declared.span.Span.{Span}
-use Rattle.krb_ap_requests.specs.Acceptable.{presented_choice}
-use Rattle.krb_service.specs.Admission.{AdmissionRecord, admission_of}
-use Rattle.krb_service.specs.ApReply.{IsReplyTo}
-use Rattle.krb_ap_requests.specs.Presents.{Choice, Presents}
-use Rattle.krb_ap_requests.specs.declared.presented.Presented.{Presented}
-use Rattle.krb_client.specs.ApReply.{TakesApReply}
-use Rattle.krb_client.specs.ApRequest.{ap_asked}
-use Rattle.krb_client.specs.Authenticators.{IsApRequest, authenticator_with, authenticator_parts_of}
-use Rattle.krb_client.specs.Client.{ClientRecord, CredentialRecord}
-use Rattle.krb_client.specs.declared.refusal.TakeRefusal.{TakeRefusal}
 use Rattle.krb_kdc_exchanges.specs.Rows.{PkinitRows}
+use Rattle.krb_client.specs.Client.{ClientRecord}
 use Rattle.krb_client.specs.Means.{MeansRecord}
-use Rattle.krb_service.specs.Admissible.{IsAdmissible}
-use Rattle.krb_service.specs.Once.{pair_of}
-use Rattle.krb_service.specs.RememberingService.{Outcome, remembering}
 use Rattle.krb_service.specs.Service.{ServiceRecord}
-use Rattle.krb_logins.specs.Held.{IsFirstSpan, IsFurtherSpan, IsHeld, further_grant}
-use Rattle.krb_logins.specs.Honest.{clock_of, login_pair}
+use Rattle.krb_logins.specs.Held.{further_grant}
 use Rattle.krb_logins.specs.Laws.{IsClientAdmitted, IsMet}
 use Rattle.krb_logins.specs.Parties.{LoginRecord, RealmRecord, RememberedRecord}
-use Rattle.krb_logins.specs.Steps.{reply_bytes}
-use Rattle.krb_logins.proofs.Admissible.{acceptable, admissible, client_name, client_realm, for_part, pair, part_sealed, realm_name, service_name}
-use Rattle.krb_logins.proofs.Outcomes.{admits}
-use Rattle.krb_logins.proofs.PresentedRuns.{choice_of, presents}
-use Rattle.krb_logins.proofs.ReplyTaken.{wanted_taken}
-use Rattle.krb_logins.proofs.WholePresented.{whole_authenticator, whole_part}
+use Rattle.krb_logins.proofs.Admissible.{ap_honest, valid}
+use Rattle.krb_logins.proofs.AdmittedBy.{admitted_by}
 
-module _ (client : ClientRecord) (means : MeansRecord) (realm : RealmRecord) (rows : PkinitRows) (service : ServiceRecord) (before : RememberedRecord) (login : LoginRecord)
-    (met : IsMet client means realm rows service before login) where
-  module _ (first span : Span) (first_is : IsFirstSpan realm login first) (further_is : IsFurtherSpan realm login first span)
-      (second : GeneralizedTime) (of_moment : seconds_of second ≡ login.client_ap / 1000000) where
-    abbrev grant : GrantRecord
-    grant = further_grant client realm login first span
-
-    -- the authenticator that the client makes
-    abbrev authenticator : AuthenticatorInner
-    authenticator = authenticator_with (authenticator_parts_of client (login.client_ap % 1000000)) second None None
-
-    -- the confounders of the ticket's part, and of the authenticator
-    abbrev part_confounder : Bytes
-    part_confounder = for_part client realm service before login met.parties met.enough met.honest first span first_is further_is
-
-    abbrev confounder : Bytes
-    confounder = authenticator_confounder (cipher_confounder_size client.suite) login.words_ap
-
-    abbrev choice : Choice
-    choice = choice_of true service.entry grant authenticator part_confounder confounder
-
-    abbrev own : IsAdmissible service (clock_of before login) before.admitted choice
-    own = admissible client realm service before login met.parties met.enough met.honest first span first_is further_is second of_moment true authenticator confounder
-
-    abbrev presented : Presented
-    presented = presented_choice service.entry service.seen.skew (clock_of before login) choice own.acceptable
-
-    -- its pair is the client's
-    own_pair : pair_of presented ≡ login_pair client login
-    unfolding admissible
-    own_pair = pair client realm service before login met.parties met.enough met.honest first span first_is further_is second of_moment true authenticator confounder
-
-    module _ (credential : CredentialRecord) (held : IsHeld met.honest.service.account login.realm_words_tgs grant credential) where
-      shows : (bytes : Bytes) → IsApRequest credential 11 true authenticator confounder bytes → Presents service.entry.key choice bytes
-      shows bytes asks =
-          let sealed = part_sealed client realm service before login met.parties met.enough met.honest first span first_is further_is credential held in
-          let realm_texts = realm_name client realm service before login met.parties met.enough met.honest in
-          let names = client_name client realm service before login met.parties met.enough met.honest in
-          let asked = service_name client realm service before login met.parties met.enough met.honest in
-          presents true service.entry grant credential authenticator part_confounder confounder bytes held.part
-          sealed held.ticket held.suite held.key asks realm_texts asked (whole_part grant realm_texts names)
-          (whole_authenticator client (login.client_ap % 1000000) second None None (client_realm client realm service before login met.parties met.enough met.honest) names)
-
-      -- the reply is taken
-      taken_so : (reply : Option Bytes) → IsReplyTo presented login.service_words reply → (taken : Result (Unit {0}) TakeRefusal)
-          → TakesApReply (ap_asked credential false login.client_ap login.words_ap) (reply_bytes reply) taken → taken ≡ Ok tt
-      unfolding ticket_part acceptable admissible
-      taken_so reply x taken y =
-          wanted_taken (ap_asked credential false login.client_ap login.words_ap) login.service_words client.suite (session_key_of client.suite login.realm_words_tgs) authenticator reply taken
-          (sym held.suite) (sym held.key) of_moment refl x y
-
-      -- and the service tells key and client
-      admitted : (bytes : Bytes) (outcome : Outcome) → IsApRequest credential 11 true authenticator confounder bytes
-          → (remembering service (clock_of before login) before.admitted bytes login.service_words).gives outcome
-          → (admission : AdmissionRecord) × (outcome ≡ (Ok admission, login_pair client login ∷ before.admitted))
-          × (admission.session ≡ encryption_key client.suite (session_key_of client.suite login.realm_words_tgs))
-          × (admission.realm ≡ client.realm) × (components admission.client ≡ client.components)
-          × ((taken : Result (Unit {0}) TakeRefusal) → TakesApReply (ap_asked credential false login.client_ap login.words_ap) (reply_bytes admission.reply) taken → taken ≡ Ok tt)
-      unfolding ticket_part acceptable admissible
-      admitted bytes outcome asks given =
-          let made = admits service (clock_of before login) before.admitted bytes login.service_words choice own (shows bytes asks) outcome given in (
-            admission_of presented made.0,
-            made.2 ∙ ap (λ p. (Ok (admission_of presented made.0), p ∷ before.admitted)) own_pair,
-            refl,
-            sym met.honest.named.client,
-            refl,
-            taken_so made.0 made.1,
-          )
-
-  -- by what it holds the client is admitted
-  pub client_admitted : IsClientAdmitted client means realm rows service before login met
-  unfolding IsClientAdmitted
-  client_admitted first span credential request outcome first_is further_is held asks given =
-      let second = asks.authenticates.second in
-      let of_moment = asks.authenticates.of_moment in
-      let own_request = subst (λ suite. IsApRequest credential 11 true asks.authenticator (authenticator_confounder (cipher_confounder_size suite) login.words_ap) request) held.suite asks.presents in
-      let presents_so = subst (λ a. IsApRequest credential 11 true a (authenticator_confounder (cipher_confounder_size client.suite) login.words_ap) request) asks.authenticates.is_made own_request in
-      admitted first span first_is further_is second of_moment credential held request outcome presents_so given
+pub client_admitted : (client : ClientRecord) (means : MeansRecord) (realm : RealmRecord) (rows : PkinitRows) (service : ServiceRecord) (before : RememberedRecord) (login : LoginRecord)
+    (met : IsMet client means realm rows service before login) → IsClientAdmitted client means realm rows service before login met
+unfolding IsClientAdmitted
+client_admitted client means realm rows service before login met first span credential request outcome first_is further_is held asks given =
+    let in_time = valid client realm service before login met.parties met.enough met.honest first span first_is further_is in
+    let by = admitted_by client realm service before login met.parties (ap_honest client realm service before login met.parties met.enough met.honest)
+    login.realm_words_tgs met.enough.realm_tgs (further_grant client realm login first span) in_time credential held in
+    let it = by.admits request outcome asks given in
+    (it.0, it.1.0, it.1.1, it.1.2, it.1.3, it.1.4)

@@ -100,7 +100,7 @@ module _ (client : ClientRecord) (means : MeansRecord) (asked : AsAskedRecord) w
       (takes_part client asked.service asked.nonce reply) part taken is x
 
 -- what is granted is taken, where it is what was asked for
-taken_of : (client : ClientRecord) (means : MeansRecord) (under : ReplyKeyRecord) (service : AccountRecord) (asked : AsAskedRecord) (grant : GrantRecord) (words : Random) (granted : Bytes) (taken : Taken)
+pub taken_of : (client : ClientRecord) (means : MeansRecord) (under : ReplyKeyRecord) (service : AccountRecord) (asked : AsAskedRecord) (grant : GrantRecord) (words : Random) (granted : Bytes) (taken : Taken)
     → IsAgreedKey client means asked under → AreTexts grant → IsAskedFor client asked.service asked.nonce grant
     → length grant.session ≡ cipher_key_size grant.suite
     → IsTicketReply grant under service words granted → TakesAsReply client means asked granted taken

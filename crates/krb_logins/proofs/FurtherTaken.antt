@@ -78,7 +78,7 @@ module _ (client : ClientRecord) (asked : TgsAskedRecord) where
       (past_refuse {T = CredentialRecord} {E = TakeRefusal} (not (is_of_type 13 reply.pvno.0 reply.msg_type.0)) Unreadable (by_key reply) taken (ap not of_type) x)
 
 -- what is granted is taken, where it is what was asked for
-taken_of : (client : ClientRecord) (suite : CipherSuite) (key : Bytes) (account : AccountRecord) (asked : TgsAskedRecord) (grant : GrantRecord) (words : Random) (granted : Bytes) (taken : Taken)
+pub taken_of : (client : ClientRecord) (suite : CipherSuite) (key : Bytes) (account : AccountRecord) (asked : TgsAskedRecord) (grant : GrantRecord) (words : Random) (granted : Bytes) (taken : Taken)
     → suite ≡ asked.suite → key ≡ asked.key → AreTexts grant → IsAskedFor client asked.service asked.nonce grant
     → length grant.session ≡ cipher_key_size grant.suite
     → IsTicketReply grant (tgs_reply_key suite key) account words granted → TakesTgsReply client asked granted taken

@@ -1,8 +1,10 @@
 -- What a client takes of a realm's reply whose part is opened, for AS and TGS.
-use Rattle.std.proofs.Common.{◌≡◌, ◌≤◌, ℕ, true, not, ◌&&◌, List, length, Option, Some, Ok, refl, sym, ap, subst, arith}
+use Rattle.std.proofs.Common.{◌≡◌, ◌≤◌, ℕ, true, not, ◌&&◌, List, length, Option, None, Some, Ok, refl, sym, ap, subst, arith}
 use Rattle.std.proofs.lemmas.Bool.{and_from, eq-eqb}
 use Rattle.std.proofs.lemmas.List.{length-take-le}
+use Rattle.std.specs.Option.{option_map}
 use Rattle.std.specs.Prelude.{pos}
+use Rattle.asn1_leaves.specs.declared.date.GeneralizedTime.{GeneralizedTime}
 use Rattle.picky_asn1.specs.Bytes.{Bytes}
 use Rattle.picky_asn1.specs.Numbers.{is_number}
 use Rattle.krb_crypto.specs.declared.suite.CipherSuite.{CipherSuite}
@@ -20,11 +22,11 @@ use Rattle.krb_tickets.proofs.KeySizes.{suite_of_sized}
 use Rattle.krb_tickets.specs.Sealing.{encryption_key}
 use Rattle.krb_tickets.specs.Grant.{GrantRecord}
 use Rattle.krb_tickets.specs.declared.reply.Exchange.{Exchange}
-use Rattle.krb_tickets.specs.Parts.{kdc_reply_of, reply_part, session_key_of, ticket_of, ticket_part}
+use Rattle.krb_tickets.specs.Parts.{kdc_reply_of, reply_part, session_key_of, tagged_till, ticket_of, ticket_part}
 use Rattle.krb_tickets.specs.Sealed.{IsSealedData, ticket_part_bytes}
 use Rattle.krb_tickets.specs.Answers.{is_answer}
 use Rattle.krb_client.specs.Client.{ClientRecord, CredentialRecord}
-use Rattle.krb_client.specs.Taking.{Taken, credential_of, takes_part}
+use Rattle.krb_client.specs.Taking.{Taken, credential_of, renew_till_of, takes_part}
 use Rattle.krb_client.specs.declared.refusal.TakeRefusal.{TakeRefusal}
 use Rattle.krb_client.specs.declared.refusal.TakeRefusal.TheVariants.{NotAsked}
 use Rattle.krb_logins.specs.Held.{IsHeld}
@@ -39,6 +41,11 @@ session_key_sized suite words enough =
 -- so it is one of the suite
 pub suite_of_key : (suite : CipherSuite) (key : Bytes) → length key ≡ cipher_key_size suite → suite_of (encryption_key suite key) ≡ Some suite
 suite_of_key suite key sized = suite_of_sized (encryption_key suite key) suite refl sized
+
+-- a renew-till is told as itself
+same_till : (till : Option GeneralizedTime) → option_map (λ tagged. tagged.0.0) (tagged_till till) ≡ till
+same_till None = refl
+same_till (Some time) = refl
 
 -- the grant is what the client asked for
 pub record IsAskedFor (client : ClientRecord) (asked : List Bytes) (number : ℕ) (grant : GrantRecord) : Type 0 where
@@ -69,10 +76,28 @@ module _ (client : ClientRecord) (asked : List Bytes) (number : ℕ) (exchange :
   unfolding reply_part
   part_suite sized = suite_of_key grant.suite grant.session sized
 
+  -- the reply tells the renew-till, if there is one
+  till_told : renew_till_of (reply_part grant) ≡ grant.renew_till
+  unfolding reply_part
+  till_told = same_till grant.renew_till
+
   held : (account : AccountRecord) (words : Random) → IsSealedData account 2 (ticket_confounder (cipher_confounder_size account.suite) words) (ticket_part_bytes (ticket_part grant)) ticket
       → IsHeld account words grant (credential_of reply (reply_part grant) grant.suite)
   unfolding kdc_reply_of reply_part
-  held account words it = record { part = ticket; sealed = it; ticket = refl; suite = refl; key = refl; realm = refl; service = refl; authtime = refl; starttime = refl; endtime = refl; flags = refl }
+  held account words it = record {
+    part = ticket;
+    sealed = it;
+    ticket = refl;
+    suite = refl;
+    key = refl;
+    realm = refl;
+    service = refl;
+    authtime = refl;
+    starttime = refl;
+    endtime = refl;
+    renew_till = till_told;
+    flags = refl;
+  }
 
   abbrev with_suite : CipherSuite → Table Taken
   with_suite suite = done (Ok (credential_of reply (reply_part grant) suite))

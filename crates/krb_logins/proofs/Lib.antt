@@ -5,6 +5,8 @@ mod LastSecond
 pub mod Times
 pub mod WholeRequests
 pub mod WholeReplies
+mod AskedBits
+mod MetParts
 mod Opened
 mod NoErrors
 pub mod GrantTaken
@@ -20,9 +22,16 @@ pub mod PresentedRuns
 pub mod ReplyTaken
 pub mod Outcomes
 mod Replying
+mod PresentedTickets
 pub mod Admissible
 mod Admitted
+mod NextGranted
 mod FurtherGranted
+mod ExchangeEnds
+mod ApEnds
+mod AdmittedBy
+mod ByTicket
+mod Renewed
 mod OneKey
 pub mod EndsWithOneKey
 mod Uses

@@ -12,6 +12,7 @@ use Rattle.krb_logins.specs.Honest.{IsTicketInTime, IsTimely, clock_of, first_en
 use Rattle.krb_logins.specs.Near.{AreNear, IsLasting, IsWithin, common_skew}
 use Rattle.krb_logins.specs.Parties.{LoginRecord, RealmRecord, RememberedRecord}
 use Rattle.krb_logins.proofs.LastSecond.{second_below}
+use Rattle.krb_logins.proofs.Times.{before_end}
 
 -- two moments in one span aren't far from one another
 not_far : (start span skew a b : Micros) → IsWithin start span a → IsWithin start span b → span ≤ skew → is_far skew a b ≡ false
@@ -38,18 +39,6 @@ asked_below till below = elim (cases_Bool (till == no_end)) [
 by_a_second : (seconds : Seconds) (skew : Micros) (lifetime : Seconds) → IsWholeSeconds skew → min (seconds * 1000000) skew < lifetime * 1000000
     → min (seconds * 1000000) skew + 1000000 ≤ lifetime * 1000000
 by_a_second seconds skew lifetime whole longer = omega (arith, whole, longer)
-
--- what is less than two numbers is less than the lesser of them
-least_of : (a b c : ℕ) → c < a → c < b → c < min a b
-least_of a b c p q = omega (arith, p, q)
-
--- a second that lies before each of the bounds of a ticket's end lies before that end
-before_end : (second lifetime start : Seconds) (old : Option Seconds) (till : Seconds) → second < asked_end till → second < start + lifetime → second < old_end old → asked_end till ≤ last_second
-    → second < end_of lifetime start old till
-before_end second lifetime start old till asked long before last =
-    least_of (asked_end till) (min (start + lifetime) (min (old_end old) last_second)) second asked
-    (least_of (start + lifetime) (min (old_end old) last_second) second long
-    (least_of (old_end old) last_second second before (omega (arith, asked, last))))
 
 -- a moment isn't past an end and the skew
 abbrev Reaches : Micros → Micros → Seconds → Type 0

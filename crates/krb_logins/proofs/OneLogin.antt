@@ -34,7 +34,7 @@ use Rattle.krb_client.specs.declared.refusal.TakeRefusal.TheVariants as take_ref
 use Rattle.krb_service.specs.RememberingService.{Outcome, remembering}
 use Rattle.krb_service.specs.Runs as runs
 use Rattle.krb_service.specs.Service.{ServiceRecord}
-use Rattle.krb_logins.proofs.OneKey.{no_refusal, no_reply, one_reply, one_value}
+use Rattle.krb_logins.proofs.ExchangeEnds.{no_refusal, no_reply, one_reply, one_value}
 use Rattle.krb_logins.specs.Honest.{IsWantOfMemory, WantsMemory}
 use Rattle.krb_logins.specs.LoginRun.{ApExchange, AsExchange, Exchanges, IsAdmitted, Login, LoginRun, TgsExchange, ended, followed, after_admission}
 use Rattle.krb_logins.specs.Parties.{LoginRecord, RealmRecord, RememberedRecord, call_at}

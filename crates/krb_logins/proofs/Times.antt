@@ -1,5 +1,5 @@
 -- Arithmetic of moments and of a ticket's times.
-use Rattle.std.proofs.Common.{◌≡◌, ◌<◌, ℕ, ◌+◌, ◌*◌, ◌/◌, ◌%◌, Bool, false, min, Option, None, Some, sym, ap, subst, arith}
+use Rattle.std.proofs.Common.{◌≡◌, ◌<◌, ◌≤◌, ℕ, ◌+◌, ◌*◌, ◌/◌, ◌%◌, Bool, false, min, Option, None, Some, sym, ap, subst, arith}
 use Rattle.std.proofs.lemmas.Bool.{lt-leb, lt-ltb}
 use Rattle.std.specs.Prelude.{if◌then◌else◌, pos}
 use Rattle.asn1_leaves.specs.GeneralizedTime.{seconds_of}
@@ -31,3 +31,15 @@ pub granted_in_time : (lifetime : Seconds) (moment : Micros) (old : Option Secon
 granted_in_time lifetime moment old till before =
     let second : moment / 1000000 < last_second = below_last (start_of moment) (asked_end till) (start_of moment + lifetime) (old_end old) last_second before in
     omega (arith, second)
+
+-- what is less than two numbers is less than the lesser of them
+least_of : (a b c : ℕ) → c < a → c < b → c < min a b
+least_of a b c p q = omega (arith, p, q)
+
+-- a second that lies before each of the bounds of a ticket's end lies before that end
+pub before_end : (second lifetime start : Seconds) (old : Option Seconds) (till : Seconds) → second < asked_end till → second < start + lifetime → second < old_end old → asked_end till ≤ last_second
+    → second < end_of lifetime start old till
+before_end second lifetime start old till asked long before last =
+    least_of (asked_end till) (min (start + lifetime) (min (old_end old) last_second)) second asked
+    (least_of (start + lifetime) (min (old_end old) last_second) second long
+    (least_of (old_end old) last_second second before (omega (arith, asked, last))))

@@ -17,7 +17,8 @@ use Rattle.krb_logins.specs.LoginRun.{ApExchange, AsExchange, Exchanges, LoginRu
 use Rattle.krb_logins.specs.Parties.{LoginRecord, RealmRecord, RememberedRecord}
 use Rattle.krb_logins.specs.Uses.{AreUses, AreUsesMet, IsVisit, IsVisitMet, UseRecord, VisitRecord, admitted_in, used_at, visited_at}
 use Rattle.krb_logins.proofs.EndsWithOneKey.{are_laws, ends_with_one_key, exchanges_held}
-use Rattle.krb_logins.proofs.OneKey.{IsAfter, ap_after}
+use Rattle.krb_logins.proofs.ApEnds.{IsAfter}
+use Rattle.krb_logins.proofs.OneKey.{ap_after}
 
 module _ (client : ClientRecord) (means : MeansRecord) (realm : RealmRecord) (rows : PkinitRows) (login : LoginRecord) where
   -- the AS exchange of a visit is that of the login

@@ -1,11 +1,15 @@
 -- The requests of clients can be written: nothing is missing in their trees.
-use Rattle.std.proofs.Common.{◌≡◌, ℕ, ◌-◌, true, List, [], ◌∷◌, Option, None, Some, refl, sym, subst}
+use Rattle.std.proofs.Common.{◌≡◌, ℕ, ◌-◌, Bool, true, false, List, [], ◌∷◌, Option, None, Some, refl, sym, subst}
 use Rattle.std.proofs.lemmas.Bool.{and_parts}
+use Rattle.std.specs.Option.{option_map}
 use Rattle.asn1_der.specs.Tree.{AreWhole, IsWhole, Trees, Writes, leaf, none, put, trees_of, wrapped}
 use Rattle.asn1_der.proofs.Spelling.{whole-wrapped}
 use Rattle.asn1_leaves.specs.CharSets.{is_general_string}
 use Rattle.asn1_leaves.specs.declared.date.GeneralizedTime.{GeneralizedTime}
+use Rattle.picky_asn1.specs.BitString.{bit_content, is_bit_string}
 use Rattle.picky_asn1.specs.Bytes.{Bytes}
+use Rattle.picky_asn1.specs.declared.wrapper.GeneralizedTimeAsn1.{GeneralizedTimeAsn1}
+use Rattle.picky_asn1_der.specs.declared.wrapper.ExplicitContextTag.{ExplicitContextTag}
 use Rattle.krb_crypto.specs.declared.suite.CipherSuite.{CipherSuite}
 use Rattle.krb_messages.specs.RandomBytes.{Random}
 use Rattle.krb_messages.specs.Trees as held
@@ -16,11 +20,13 @@ use Rattle.krb_messages.specs.declared.data_types.pa_enc_timestamp.PaEncTsEnc.{P
 use Rattle.krb_messages.specs.Messages.{IsAsReq, IsTgsReq, as_req_tree, tgs_req_tree}
 use Rattle.krb_tickets.specs.Parts.{tagged_addresses, tagged_till}
 use Rattle.krb_kdc_exchanges.proofs.PartTrees.{addresses_tree, host_address_tree, integer_tree, time_tree}
-use Rattle.krb_client.specs.AsRequest.{as_body_of_suites, as_request_of}
+use Rattle.krb_client.specs.AsRequest.{as_body_of_suites, as_body_with, as_request_of}
 use Rattle.krb_client.specs.Client.{ClientRecord}
 use Rattle.krb_client.specs.Messages.{as_request_bytes, encrypted_bytes, tgs_request_bytes, timestamp_bytes}
+use Rattle.krb_client.specs.Options.{options_of, plain_options}
 use Rattle.krb_client.specs.Requests.{etypes}
-use Rattle.krb_client.specs.TgsRequest.{further_request}
+use Rattle.krb_client.specs.TgsRequest.{further_request, further_request_with}
+use Rattle.krb_client.specs.declared.options.TicketOptions.{TicketOptions}
 use Rattle.krb_logins.proofs.Names.{are_texts}
 
 pub whole_text : (first : ℕ) (text : Bytes) → is_general_string text ≡ true → IsWhole (leaf (is_general_string text) first text)
@@ -75,11 +81,29 @@ whole_etypes : (suites : List CipherSuite) → AreWhole (trees_of integer_tree (
 whole_etypes [] = tt
 whole_etypes (suite ∷ suites) = (tt, whole_etypes suites)
 
--- the request for a first ticket, with any padata and any suites
-whole_as_request : (padata : PaData) (client : ClientRecord) (suites : List CipherSuite) (service : List Bytes) (till : GeneralizedTime) (words : Random)
+-- kdc-options
+whole_options : (options : TicketOptions) → IsWhole (wrapped 160 (leaf (is_bit_string (options_of options)) 3 (bit_content (options_of options))))
+whole_options options =
+    whole-wrapped 160 (leaf (is_bit_string (options_of options)) 3 (bit_content (options_of options)))
+    (subst (λ b. IsWhole (leaf b 3 (bit_content (options_of options)))) (sym (is options.renews)) tt)
+  where
+    is : (renews : Bool) → is_bit_string (options_of (record options { renews = renews })) ≡ true
+    is true = refl
+    is false = refl
+
+-- rtime, if there is one, before further fields
+abbrev tagged_rtime : Option GeneralizedTime → Option (ExplicitContextTag 6 GeneralizedTimeAsn1)
+tagged_rtime rtime = option_map (λ time. record { 0 = record { 0 = time } }) rtime
+
+whole_rtime : (rest : Trees) → AreWhole rest → (rtime : Option GeneralizedTime) → AreWhole (put (λ tagged. wrapped 166 (time_tree tagged.0.0)) (tagged_rtime rtime) rest)
+whole_rtime rest whole None = whole
+whole_rtime rest whole (Some time) = ((tt, tt), whole)
+
+-- the request for a first ticket, with any padata, suites and options
+whole_as_request : (padata : PaData) (client : ClientRecord) (suites : List CipherSuite) (options : TicketOptions) (service : List Bytes) (till : GeneralizedTime) (words : Random)
     → is_general_string client.realm ≡ true → are_texts client.components ≡ true → are_texts service ≡ true
-    → IsWhole (as_req_tree (as_request_of padata (as_body_of_suites client suites service till words)))
-whole_as_request padata client suites service till words realm name of_service = (
+    → IsWhole (as_req_tree (as_request_of padata (as_body_with client suites options service till words)))
+whole_as_request padata client suites options service till words realm name of_service = (
   (
     (tt, tt),
     (
@@ -89,12 +113,12 @@ whole_as_request padata client suites service till words realm name of_service =
         (
           (
             (
-              (tt, tt),
+              whole_options options,
               (
                 (((tt, tt), ((whole_texts 27 client.components name, tt), tt)), tt),
                 (
                   whole-wrapped 162 (leaf (is_general_string client.realm) 27 client.realm) (whole_text 27 client.realm realm),
-                  ((((tt, tt), ((whole_texts 27 service of_service, tt), tt)), tt), ((tt, tt), ((tt, tt), ((whole_etypes suites, tt), tt)))),
+                  ((((tt, tt), ((whole_texts 27 service of_service, tt), tt)), tt), ((tt, tt), whole_rtime _ ((tt, tt), ((whole_etypes suites, tt), tt)) options.rtime)),
                 ),
               ),
             ),
@@ -108,18 +132,25 @@ whole_as_request padata client suites service till words realm name of_service =
   tt,
 )
 
+pub as_request_with_written : (padata : PaData) (client : ClientRecord) (suites : List CipherSuite) (options : TicketOptions) (service : List Bytes) (till : GeneralizedTime) (words : Random) (bytes : Bytes)
+    → is_general_string client.realm ≡ true → are_texts client.components ≡ true → are_texts service ≡ true
+    → bytes ≡ as_request_bytes (as_request_of padata (as_body_with client suites options service till words))
+    → IsAsReq bytes (as_request_of padata (as_body_with client suites options service till words))
+unfolding as_request_bytes
+as_request_with_written padata client suites options service till words bytes realm name of_service e =
+    (whole_as_request padata client suites options service till words realm name of_service, e)
+
+-- and that without options
 pub as_request_written : (padata : PaData) (client : ClientRecord) (suites : List CipherSuite) (service : List Bytes) (till : GeneralizedTime) (words : Random) (bytes : Bytes)
     → is_general_string client.realm ≡ true → are_texts client.components ≡ true → are_texts service ≡ true
     → bytes ≡ as_request_bytes (as_request_of padata (as_body_of_suites client suites service till words))
     → IsAsReq bytes (as_request_of padata (as_body_of_suites client suites service till words))
-unfolding as_request_bytes
-as_request_written padata client suites service till words bytes realm name of_service e =
-    (whole_as_request padata client suites service till words realm name of_service, e)
+as_request_written padata client suites service till words bytes = as_request_with_written padata client suites plain_options service till words bytes
 
--- the request for a service ticket
-whole_tgs_request : (client : ClientRecord) (suites : List CipherSuite) (service : List Bytes) (till : GeneralizedTime) (nonce : ℕ) (shown : Bytes)
-    → is_general_string client.realm ≡ true → are_texts service ≡ true → IsWhole (tgs_req_tree (further_request client suites service till nonce shown))
-whole_tgs_request client suites service till nonce shown realm of_service = (
+-- the request for a further ticket
+whole_tgs_request : (client : ClientRecord) (suites : List CipherSuite) (options : TicketOptions) (service : List Bytes) (till : GeneralizedTime) (nonce : ℕ) (shown : Bytes)
+    → is_general_string client.realm ≡ true → are_texts service ≡ true → IsWhole (tgs_req_tree (further_request_with client suites options service till nonce shown))
+whole_tgs_request client suites options service till nonce shown realm of_service = (
   (
     (tt, tt),
     (
@@ -129,10 +160,10 @@ whole_tgs_request client suites service till nonce shown realm of_service = (
         (
           (
             (
-              (tt, tt),
+              whole_options options,
               (
                 whole-wrapped 162 (leaf (is_general_string client.realm) 27 client.realm) (whole_text 27 client.realm realm),
-                ((((tt, tt), ((whole_texts 27 service of_service, tt), tt)), tt), ((tt, tt), ((tt, tt), ((whole_etypes suites, tt), tt)))),
+                ((((tt, tt), ((whole_texts 27 service of_service, tt), tt)), tt), ((tt, tt), whole_rtime _ ((tt, tt), ((whole_etypes suites, tt), tt)) options.rtime)),
               ),
             ),
             tt,
@@ -145,8 +176,15 @@ whole_tgs_request client suites service till nonce shown realm of_service = (
   tt,
 )
 
+pub tgs_request_with_written : (client : ClientRecord) (suites : List CipherSuite) (options : TicketOptions) (service : List Bytes) (till : GeneralizedTime) (nonce : ℕ) (shown bytes : Bytes)
+    → is_general_string client.realm ≡ true → are_texts service ≡ true
+    → bytes ≡ tgs_request_bytes (further_request_with client suites options service till nonce shown) → IsTgsReq bytes (further_request_with client suites options service till nonce shown)
+unfolding tgs_request_bytes
+tgs_request_with_written client suites options service till nonce shown bytes realm of_service e =
+    (whole_tgs_request client suites options service till nonce shown realm of_service, e)
+
+-- and that without options
 pub tgs_request_written : (client : ClientRecord) (suites : List CipherSuite) (service : List Bytes) (till : GeneralizedTime) (nonce : ℕ) (shown bytes : Bytes)
     → is_general_string client.realm ≡ true → are_texts service ≡ true
     → bytes ≡ tgs_request_bytes (further_request client suites service till nonce shown) → IsTgsReq bytes (further_request client suites service till nonce shown)
-unfolding tgs_request_bytes
-tgs_request_written client suites service till nonce shown bytes realm of_service e = (whole_tgs_request client suites service till nonce shown realm of_service, e)
+tgs_request_written client suites service till nonce shown bytes = tgs_request_with_written client suites plain_options service till nonce shown bytes

@@ -38,11 +38,15 @@ pub record IsAgreedKey (client : ClientRecord) (means : MeansRecord) (asked : As
   pub taken : (reply : KdcRep) → reply.padata.0 ≡ padata_of under.pk_as_rep → (key : Result KeyRecord TakeRefusal)
       → (means.reply_key client asked reply).gives key → key ≡ Ok (record { suite = under.suite; bytes = under.key })
 
--- the client's means don't refuse its request. By each padata that they have for it the realm authenticates the client, and replies
--- under a key that both agree on
-pub record IsAuthenticated (client : ClientRecord) (means : MeansRecord) (realm : RealmRecord) (rows : PkinitRows) (account : AccountRecord) (login : LoginRecord) : Type 0 where
-  pub asks : means.refuses (as_body_of_login client login) login.client_as login.words_as → ⊥
-  pub shown : (padata : PaData) → means.asks (as_body_of_login client login) login.client_as login.words_as padata
+-- the client's means don't refuse its request with this body. By each padata that they have for it the realm authenticates the client, and
+-- replies under a key that both agree on
+pub record IsAuthenticatedFor (client : ClientRecord) (means : MeansRecord) (realm : RealmRecord) (rows : PkinitRows) (account : AccountRecord) (login : LoginRecord) (body : KdcReqBody) : Type 0 where
+  pub asks : means.refuses body login.client_as login.words_as → ⊥
+  pub shown : (padata : PaData) → means.asks body login.client_as login.words_as padata
       → (r : Result ReplyKeyRecord Code)
-      → (authenticated (call_at realm login.realm_as login.realm_words_as) rows account client.components (as_request_of padata (as_body_of_login client login))).gives r
+      → (authenticated (call_at realm login.realm_as login.realm_words_as) rows account client.components (as_request_of padata body)).gives r
       → (under : ReplyKeyRecord) × (r ≡ Ok under) × IsAgreedKey client means (first_asked client login) under
+
+-- so it is of a login's request
+abbrev pub IsAuthenticated : ClientRecord → MeansRecord → RealmRecord → PkinitRows → AccountRecord → LoginRecord → Type 0
+IsAuthenticated client means realm rows account login = IsAuthenticatedFor client means realm rows account login (as_body_of_login client login)

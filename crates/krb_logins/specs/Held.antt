@@ -77,4 +77,5 @@ pub record IsHeld (account : AccountRecord) (words : Random) (grant : GrantRecor
   pub authtime : credential.authtime ≡ grant.auth_time
   pub starttime : credential.starttime ≡ grant.starttime
   pub endtime : credential.endtime ≡ grant.endtime
+  pub renew_till : credential.renew_till ≡ grant.renew_till
   pub flags : credential.flags ≡ flags_of grant.flags

@@ -132,6 +132,11 @@ abbrev pub WantsMemory : {A : Type 0} → Result A LoginRefusal → Type 0
 WantsMemory (Ok made) = ⊥
 WantsMemory (Err refusal) = IsWantOfMemory refusal
 
+-- the result is something of which this holds, or says that memory ran out
+abbrev pub Ends : {T : Type 0} → (T → Type 0) → Result T LoginRefusal → Type 0
+Ends P (Ok made) = P made
+Ends P (Err refusal) = IsWantOfMemory refusal
+
 -- client and service hold one session key, and the service has the client's name; or memory ran out
 abbrev pub IsOneKey : ClientRecord → Result Login LoginRefusal → Type 0
 IsOneKey client (Ok login) =

@@ -7,6 +7,8 @@ pub mod Near
 pub mod Authenticated
 pub mod Held
 pub mod Laws
+pub mod Tickets
+pub mod Renewals
 pub mod Uses
 pub mod Choices
 pub mod ApExchanges

@@ -15,12 +15,13 @@ use Rattle.krb_client.specs.Client.{ClientRecord, CredentialRecord}
 use Rattle.krb_client.specs.Means.{MeansRecord}
 use Rattle.krb_client.specs.Refusals.{IsTaken}
 use Rattle.krb_client.specs.TgsReply.{takes_tgs_reply}
+use Rattle.krb_client.specs.declared.options.TicketOptions.{TicketOptions}
 use Rattle.krb_client.specs.declared.refusal.AskRefusal.{AskRefusal}
 use Rattle.krb_service.specs.RememberingService.{remembering}
 use Rattle.krb_service.specs.Runs as runs
 use Rattle.krb_service.specs.Service.{ServiceRecord}
-use Rattle.krb_logins.specs.Parties.{LoginRecord, RealmRecord, RememberedRecord, call_at}
-use Rattle.krb_logins.specs.Steps.{IsApAsked, IsAsAsked, IsKdcAnswered, IsTgsAsked, reply_bytes}
+use Rattle.krb_logins.specs.Parties.{LoginRecord, RealmRecord, RememberedRecord, TgsRecord, call_at}
+use Rattle.krb_logins.specs.Steps.{IsApAsked, IsAsAsked, IsAsAskedWith, IsKdcAnswered, IsTgsAsked, IsTgsAskedWith, reply_bytes}
 use Rattle.krb_logins.specs.declared.refusal.LoginRefusal.{LoginRefusal}
 use Rattle.krb_logins.specs.declared.refusal.LoginRefusal.TheVariants.{Admitted, Answered, Asked, Taken}
 
@@ -46,6 +47,20 @@ unfoldable pub TgsExchange : ClientRecord → RealmRecord → PkinitRows → Log
 TgsExchange client realm rows login granting =
     followed (IsTgsAsked client granting login.service login.till login.client_tgs login.words_tgs) Asked (λ sent.
     followed (IsKdcAnswered (call_at realm login.realm_tgs login.realm_words_tgs) rows sent.0) Answered (λ reply.
+    followed (IsTaken (takes_tgs_reply client sent.1 reply)) Taken ended))
+
+-- the AS exchange by a request with options
+unfoldable pub AsExchangeWith : ClientRecord → TicketOptions → MeansRecord → RealmRecord → PkinitRows → LoginRecord → Result CredentialRecord LoginRefusal → Type 0
+AsExchangeWith client options means realm rows login =
+    followed (IsAsAskedWith client options means (krbtgt_of client.realm) login.till login.client_as login.words_as) Asked (λ sent.
+    followed (IsKdcAnswered (call_at realm login.realm_as login.realm_words_as) rows sent.0) Answered (λ reply.
+    followed (IsTaken (takes_as_reply client means sent.1 reply)) Taken ended))
+
+-- a TGS exchange by a request with options: a further ticket, or the presented one renewed
+unfoldable pub TgsExchangeWith : ClientRecord → RealmRecord → PkinitRows → TgsRecord → CredentialRecord → Result CredentialRecord LoginRefusal → Type 0
+TgsExchangeWith client realm rows exchange granting =
+    followed (IsTgsAskedWith client exchange granting) Asked (λ sent.
+    followed (IsKdcAnswered (call_at realm exchange.realm_at exchange.realm_words) rows sent.0) Answered (λ reply.
     followed (IsTaken (takes_tgs_reply client sent.1 reply)) Taken ended))
 
 -- both: the ticket for the service, with its session key

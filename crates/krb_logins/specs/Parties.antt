@@ -8,6 +8,8 @@ use Rattle.krb_realm_accounts.specs.Accounts.{Look}
 use Rattle.krb_realm_accounts.specs.Settings.{SettingsRecord}
 use Rattle.krb_service.specs.Pair.{PairRecord}
 use Rattle.krb_kdc_exchanges.specs.Call.{CallRecord}
+use Rattle.krb_client.specs.Options.{plain_options}
+use Rattle.krb_client.specs.declared.options.TicketOptions.{TicketOptions}
 
 -- a realm: its name, its settings, and its accounts as they are looked up
 pub record RealmRecord : Type 0 where
@@ -47,3 +49,26 @@ pub record LoginRecord : Type 0 where
   pub realm_words_as : Random
   pub realm_words_tgs : Random
   pub service_words : Random
+
+-- a TGS exchange: what the client asks for, with which options, the moments of client and realm, each by its own clock, and the random bytes
+-- of both
+pub record TgsRecord : Type 0 where
+  pub options : TicketOptions
+  pub service : List Bytes
+  pub till : GeneralizedTime
+  pub client_at : Micros
+  pub realm_at : Micros
+  pub words : Random
+  pub realm_words : Random
+
+-- that of a login, which asks for a plain ticket
+abbrev pub tgs_of : LoginRecord → TgsRecord
+tgs_of login = record {
+  options = plain_options;
+  service = login.service;
+  till = login.till;
+  client_at = login.client_tgs;
+  realm_at = login.realm_tgs;
+  words = login.words_tgs;
+  realm_words = login.realm_words_tgs;
+}

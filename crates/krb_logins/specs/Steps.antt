@@ -1,5 +1,5 @@
 -- The steps of a login, each of one party (RFC 4120, sections 3.1, 3.2, 3.3): what it makes, or why it doesn't.
-use Rattle.std.specs.Prelude.{◌≡◌, ◌⊎◌, false, true, List, [], Option, None, Some, Result, Ok, Err}
+use Rattle.std.specs.Prelude.{◌≡◌, ◌⊎◌, false, true, List, [], ◌∷◌, Option, None, Some, Result, Ok, Err}
 use Rattle.asn1_leaves.specs.declared.date.GeneralizedTime.{GeneralizedTime}
 use Rattle.picky_asn1.specs.Bytes.{Bytes}
 use Rattle.krb_time.specs.Units.{Micros}
@@ -14,12 +14,14 @@ use Rattle.krb_kdc_exchanges.specs.Call.{CallRecord}
 use Rattle.krb_kdc_exchanges.specs.Replies.{Replies}
 use Rattle.krb_client.specs.Asked.{ApAskedRecord, AsAskedRecord, TgsAskedRecord}
 use Rattle.krb_client.specs.ApRequest.{AsksAp, ap_asked}
-use Rattle.krb_client.specs.AsRequest.{AsksAs, IsUnasked, as_asked}
+use Rattle.krb_client.specs.AsRequest.{AsksAs, AsksAsWith, IsUnasked, IsUnaskedWith, as_asked}
 use Rattle.krb_client.specs.Client.{ClientRecord, CredentialRecord}
 use Rattle.krb_client.specs.Means.{MeansRecord}
-use Rattle.krb_client.specs.TgsRequest.{AsksTgs, tgs_asked}
+use Rattle.krb_client.specs.TgsRequest.{AsksTgs, AsksTgsWith, tgs_asked}
+use Rattle.krb_client.specs.declared.options.TicketOptions.{TicketOptions}
 use Rattle.krb_client.specs.declared.refusal.AskRefusal.{AskRefusal}
 use Rattle.krb_client.specs.declared.refusal.AskRefusal.TheVariants as ask_refusal
+use Rattle.krb_logins.specs.Parties.{TgsRecord}
 
 -- the means refuse no request that they have padata for
 abbrev pub AreDecided : MeansRecord → Type 0
@@ -33,6 +35,13 @@ IsAsAsked client means service till moment words (Ok sent) =
 IsAsAsked client means service till moment words (Err refusal) =
     IsUnasked client means service till moment words refusal × (are_components service ≡ false → refusal ≡ ask_refusal.BadName)
 
+-- it asks so with options
+unfoldable pub IsAsAskedWith : ClientRecord → TicketOptions → MeansRecord → List Bytes → GeneralizedTime → Micros → Random → Result (Bytes × AsAskedRecord) AskRefusal → Type 0
+IsAsAskedWith client options means service till moment words (Ok sent) =
+    AsksAsWith client (client.suite ∷ []) options means service till moment words sent.0 × (sent.1 ≡ as_asked service moment words) × (are_components service ≡ true)
+IsAsAskedWith client options means service till moment words (Err refusal) =
+    IsUnaskedWith client (client.suite ∷ []) options means service till moment words refusal × (are_components service ≡ false → refusal ≡ ask_refusal.BadName)
+
 -- why a client refuses to ask for a service by a ticket: the service's name is not a valid name, or memory ran out
 abbrev pub IsUnnamed : List Bytes → AskRefusal → Type 0
 IsUnnamed service refusal = (refusal ≡ ask_refusal.Memory) ⊎ ((refusal ≡ ask_refusal.BadName) × (are_components service ≡ false))
@@ -42,6 +51,13 @@ unfoldable pub IsTgsAsked : ClientRecord → CredentialRecord → List Bytes →
 IsTgsAsked client credential service till moment words (Ok sent) =
     AsksTgs client credential service till moment words sent.0 × (sent.1 ≡ tgs_asked credential service words) × (are_components service ≡ true)
 IsTgsAsked client credential service till moment words (Err refusal) = IsUnnamed service refusal
+
+-- it asks so with options
+unfoldable pub IsTgsAskedWith : ClientRecord → TgsRecord → CredentialRecord → Result (Bytes × TgsAskedRecord) AskRefusal → Type 0
+IsTgsAskedWith client exchange credential (Ok sent) =
+    AsksTgsWith client (client.suite ∷ []) exchange.options credential exchange.service exchange.till exchange.client_at exchange.words sent.0
+    × (sent.1 ≡ tgs_asked credential exchange.service exchange.words) × (are_components exchange.service ≡ true)
+IsTgsAskedWith client exchange credential (Err refusal) = IsUnnamed exchange.service refusal
 
 -- the client makes the AP-REQ by its service ticket, requests a reply and chooses no subkey, or memory ran out
 unfoldable pub IsApAsked : ClientRecord → CredentialRecord → Micros → Random → Result (Bytes × ApAskedRecord) AskRefusal → Type 0

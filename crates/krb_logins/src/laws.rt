@@ -8,14 +8,17 @@ ghost use Rattle.krb_ap_requests.specs.Presents.{Presents};
 ghost use Rattle.krb_kdc_exchanges.specs.Calls.{AreKeyed};
 ghost use Rattle.krb_client.specs.Client.{ClientRecord, CredentialRecord};
 ghost use Rattle.krb_client.specs.EncryptedTimestamps.{by_key};
+ghost use Rattle.krb_client.specs.declared.options.TicketOptions.{TicketOptions};
 ghost use Rattle.krb_service.specs.Service.{IsService, ServiceRecord};
 ghost use Rattle.krb_logins.specs.Choices.{AsksService, choice_by};
-ghost use Rattle.krb_logins.specs.Honest.{AreEnough, AreParties, IsGranting, IsHonestByPassword, IsOneKey, IsTimely, WantsMemory};
+ghost use Rattle.krb_logins.specs.Honest.{AreEnough, AreParties, Ends, IsGranting, IsHonestByPassword, IsOneKey, IsTimely, WantsMemory};
 ghost use Rattle.krb_logins.specs.Laws.{IsClientAdmitted, IsFirstGranted, IsFirstTaken, IsFurtherGranted, IsFurtherTaken, IsMet};
-ghost use Rattle.krb_logins.specs.LoginRun.{AsExchange, Exchanges, Login, LoginRun};
+ghost use Rattle.krb_logins.specs.LoginRun.{AsExchange, AsExchangeWith, Exchanges, Login, LoginRun, TgsExchangeWith};
 ghost use Rattle.krb_logins.specs.Near.{AreNear, IsLasting, common_skew};
-ghost use Rattle.krb_logins.specs.Parties.{LoginRecord, RealmRecord, RememberedRecord};
+ghost use Rattle.krb_logins.specs.Parties.{LoginRecord, RealmRecord, RememberedRecord, TgsRecord};
+ghost use Rattle.krb_logins.specs.Renewals.{IsRenewedHonest, IsTicketLoginHonest, RenewedLogin, TicketLogin};
 ghost use Rattle.krb_logins.specs.Steps.{AreDecided};
+ghost use Rattle.krb_logins.specs.Tickets.{AreOfOneRealm, HoldsFirst, HoldsGranting, HoldsNext, IsAsHonest, IsTgsHonest};
 ghost use Rattle.krb_logins.specs.Uses.{AreUses, AreUsesMet, IsVisit, IsVisitMet, UseRecord, VisitRecord};
 ghost use Rattle.krb_logins.specs.declared.refusal.LoginRefusal.{LoginRefusal};
 
@@ -89,6 +92,38 @@ pub fn several_uses<M: Means, P: Pkinit>(means: &M, pkinit: &P)
         → AreUsesMet client (M.means means.now) realm (P.rows pkinit.now) service login before uses
         → AreUses client service login credential before uses
         → All (λ used. IsOneKey client used.result) uses }
+{}
+
+/// In an honest AS exchange with options the client takes the first ticket, as the realm's policy grants it, or memory runs out.
+pub fn first_held<M: Means, P: Pkinit>(means: &M, pkinit: &P)
+    ensures { (client : ClientRecord) (options : TicketOptions) (realm : RealmRecord) (login : LoginRecord) (one : AreOfOneRealm client realm) (result : Result CredentialRecord LoginRefusal)
+        → IsAsHonest client options (M.means means.now) realm (P.rows pkinit.now) one.known.account login
+        → AsExchangeWith client options (M.means means.now) realm (P.rows pkinit.now) login result → Ends (HoldsFirst client options realm login) result }
+{}
+
+/// In an honest TGS exchange by a ticket-granting ticket that it holds, the client takes the next ticket, or memory runs out. The presented
+/// ticket may be a first one, a renewed one or a forwarded one. The next one is for a service, or it is the presented one renewed.
+pub fn next_held<P: Pkinit>(pkinit: &P)
+    ensures { (client : ClientRecord) (realm : RealmRecord) (exchange : TgsRecord) (granting : CredentialRecord) (result : Result CredentialRecord LoginRefusal)
+        → AreOfOneRealm client realm → (holds : HoldsGranting client realm granting) → IsTgsHonest client realm exchange granting
+        → TgsExchangeWith client realm (P.rows pkinit.now) exchange granting result → Ends (HoldsNext client realm exchange granting holds) result }
+{}
+
+/// Every honest login by a ticket-granting ticket that the client holds, however it came by it, ends with one session key on both sides,
+/// under the client's name, or memory runs out.
+pub fn one_key_by_ticket<P: Pkinit>(pkinit: &P)
+    ensures { (client : ClientRecord) (realm : RealmRecord) (service : ServiceRecord) (before : RememberedRecord) (login : LoginRecord) (granting : CredentialRecord)
+        (result : Result Login LoginRefusal) (after : RememberedRecord)
+        → AreOfOneRealm client realm → HoldsGranting client realm granting → IsTicketLoginHonest client realm service before login granting
+        → TicketLogin client realm (P.rows pkinit.now) service login granting before result after → IsOneKey client result }
+{}
+
+/// Every honest login over renewed tickets ends so: an AS exchange with options, any number of renewals, and the login by the last ticket.
+pub fn one_key_over_renewals<M: Means, P: Pkinit>(means: &M, pkinit: &P)
+    ensures { (client : ClientRecord) (options : TicketOptions) (realm : RealmRecord) (service : ServiceRecord) (login : LoginRecord) (exchanges : List TgsRecord) (before : RememberedRecord)
+        (result : Result Login LoginRefusal) (after : RememberedRecord)
+        → IsRenewedHonest client options (M.means means.now) realm (P.rows pkinit.now) service login exchanges before
+        → RenewedLogin client options (M.means means.now) realm (P.rows pkinit.now) service login exchanges before result after → IsOneKey client result }
 {}
 
 /// A login has one outcome: what it answers, and what the service remembers after it. The only exception is running out of memory.
