@@ -28,7 +28,7 @@ use Rattle.krb_logins.specs.Held.{IsHeld}
 use Rattle.krb_logins.specs.Honest.{AreParties, Ends, IsOneKey, IsTicketInTime, clock_of}
 use Rattle.krb_logins.specs.LoginRun.{ApExchange, AsExchangeWith, Login, TgsExchange, TgsExchangeWith}
 use Rattle.krb_logins.specs.Parties.{LoginRecord, RealmRecord, RememberedRecord, TgsRecord, call_at, tgs_of}
-use Rattle.krb_logins.specs.Renewals.{IsTicketLoginHonest, TicketLogin}
+use Rattle.krb_logins.specs.TicketChains.{IsTicketLoginHonest, TicketLogin}
 use Rattle.krb_logins.specs.Steps.{IsAsAskedWith, IsTgsAsked, IsTgsAskedWith}
 use Rattle.krb_logins.specs.Tickets.{AreOfOneRealm, Holds, HoldsFirst, HoldsGranting, HoldsNext, IsAsHonest, IsTgsHonest, end_by, first_grant_with, next_grant, ticket_for}
 use Rattle.krb_logins.specs.declared.refusal.LoginRefusal.{LoginRefusal}

@@ -166,13 +166,13 @@ listed client options service till words suite same =
     (or_left (is_number (cipher_number client.suite) (pos (cipher_number client.suite))) false (is_own_number client.suite))
 
 -- the request's type and options are as they are to be, and its realm is this one
-for_realm : (padata : PaData) (client : ClientRecord) (options : TicketOptions) (service : List Bytes) (till : GeneralizedTime) (words : Random) (realm : Bytes) → options.renews ≡ false → client.realm ≡ realm
+for_realm : (padata : PaData) (client : ClientRecord) (options : TicketOptions) (service : List Bytes) (till : GeneralizedTime) (words : Random) (realm : Bytes) → options.forwards ≡ false → options.renews ≡ false → client.realm ≡ realm
     → (header_rows 10 realm (has_refused_option (options_of options)) (as_request_of padata (as_body_with client (client.suite ∷ []) options service till words))).gives (Ok tt)
-for_realm padata client options service till words realm no_renewal same =
+for_realm padata client options service till words realm not_forwarded not_renewed same =
     let refused = has_refused_option (options_of options) in
     let postdated = is_postdated (options_of options) in
     by_refuse {T = Unit {0}} {E = ℕ} (not (is_same_realm client.realm realm)) 68 (refuse refused 13 (refuse postdated 10 (done (Ok tt)))) (Ok tt) (ap not (same_realm client.realm realm same))
-    (by_refuse {T = Unit {0}} {E = ℕ} refused 13 (refuse postdated 10 (done (Ok tt))) (Ok tt) (none_refused options no_renewal)
+    (by_refuse {T = Unit {0}} {E = ℕ} refused 13 (refuse postdated 10 (done (Ok tt))) (Ok tt) (none_refused options not_forwarded not_renewed)
     (by_refuse {T = Unit {0}} {E = ℕ} postdated 10 (done (Ok tt)) (Ok tt) (not_postdated options) refl))
 
 -- a realm replies to an AS request by its table
@@ -243,7 +243,7 @@ module _ (client : ClientRecord) (options : TicketOptions) (means : MeansRecord)
       → (r : Result Bytes ℕ) → (as_table call rows (realm.look client.components) (realm.look (krbtgt_of client.realm)) (request_with padata)).gives r → IsGrantedBy IsAgreed call asked body r
   grants padata it r x =
       granted_by IsAgreed call rows (realm.look client.components) (realm.look (krbtgt_of client.realm)) (request_with padata) asked r
-      (for_realm padata client options (krbtgt_of client.realm) login.till login.words_as realm.name honest.no_renewal one.same)
+      (for_realm padata client options (krbtgt_of client.realm) login.till login.words_as realm.name honest.not_forwarded honest.not_renewed one.same)
       refl one.known.found refl granting_found can_be (can_show padata it) x
 
   -- with the client's suite in place of its account's

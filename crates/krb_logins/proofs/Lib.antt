@@ -31,7 +31,7 @@ mod ExchangeEnds
 mod ApEnds
 mod AdmittedBy
 mod ByTicket
-mod Renewed
+mod Chained
 mod OneKey
 pub mod EndsWithOneKey
 mod Uses

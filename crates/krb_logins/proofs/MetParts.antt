@@ -1,5 +1,5 @@
 -- An honest login has an honest AS exchange and an honest TGS exchange, each as one with options.
-use Rattle.std.proofs.Common.{◌≡◌, ◌<◌, true, Some, refl, sym, ap, subst, ◌∙◌}
+use Rattle.std.proofs.Common.{◌≡◌, ◌<◌, true, false, Some, refl, sym, ap, subst, ◌∙◌}
 use Rattle.asn1_leaves.specs.GeneralizedTime.{seconds_of}
 use Rattle.krb_time.specs.Units.{Seconds}
 use Rattle.krb_realm_accounts.specs.Names.{are_components}
@@ -17,6 +17,10 @@ use Rattle.krb_logins.specs.Laws.{IsMet}
 use Rattle.krb_logins.specs.Parties.{LoginRecord, RealmRecord, RememberedRecord, tgs_of}
 use Rattle.krb_logins.specs.Tickets.{AreOfOneRealm, HoldsGranting, IsAsHonest, IsTgsHonest}
 
+-- a plain request asks for no other ticket
+pub never : {A : Type 0} → false ≡ true → A
+never is = absurd (cc (is))
+
 module _ (client : ClientRecord) (means : MeansRecord) (realm : RealmRecord) (rows : PkinitRows) (service : ServiceRecord) (before : RememberedRecord) (login : LoginRecord)
     (met : IsMet client means realm rows service before login) where
   abbrev pub one_realm : AreOfOneRealm client realm
@@ -26,7 +30,8 @@ module _ (client : ClientRecord) (means : MeansRecord) (realm : RealmRecord) (ro
   as_honest = record {
     enough = met.enough.realm_as;
     granting = met.granting;
-    no_renewal = refl;
+    not_renewed = refl;
+    not_forwarded = refl;
     lasts = met.honest.timely.first.lasts;
     authenticated = met.authenticated;
   }
@@ -51,12 +56,12 @@ module _ (client : ClientRecord) (means : MeansRecord) (realm : RealmRecord) (ro
     ends : first_end realm login ≡ seconds_of granting.endtime
     ends = sym (ap seconds_of held.endtime ∙ first_is.ends)
 
-    valid : IsTicketInTime (seconds_of granting.starttime) (seconds_of granting.endtime) (realm_skew realm) login.realm_tgs
+    pub valid : IsTicketInTime (seconds_of granting.starttime) (seconds_of granting.endtime) (realm_skew realm) login.realm_tgs
     valid =
         let started = subst (λ (start : Seconds). IsTicketInTime start (first_end realm login) (realm_skew realm) login.realm_tgs) starts met.honest.timely.first in
         subst (λ (end : Seconds). IsTicketInTime (seconds_of granting.starttime) end (realm_skew realm) login.realm_tgs) ends started
 
-    further_lasts : start_of login.realm_tgs < end_of realm.settings.lifetime (start_of login.realm_tgs) (Some (seconds_of granting.endtime)) (seconds_of login.till)
+    pub further_lasts : start_of login.realm_tgs < end_of realm.settings.lifetime (start_of login.realm_tgs) (Some (seconds_of granting.endtime)) (seconds_of login.till)
     further_lasts =
         subst (λ (old : Seconds). start_of login.realm_tgs < end_of realm.settings.lifetime (start_of login.realm_tgs) (Some old) (seconds_of login.till)) ends met.honest.timely.further.lasts
 
@@ -69,5 +74,7 @@ module _ (client : ClientRecord) (means : MeansRecord) (realm : RealmRecord) (ro
       found = ap realm.look met.honest.named.asked ∙ met.honest.service.found;
       near = met.honest.timely.tgs_near;
       valid = valid;
-      allowed = further_lasts;
+      lasts = λ is. further_lasts;
+      renews = λ is. never is;
+      forwards = λ is. never is;
     }

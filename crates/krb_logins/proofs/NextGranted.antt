@@ -72,8 +72,8 @@ use Rattle.krb_client.specs.TgsRequest.{AsksTgsWith, checksum_over, further_requ
 use Rattle.krb_client.specs.declared.options.TicketOptions.{TicketOptions}
 use Rattle.krb_logins.specs.Laws.{AreBytes}
 use Rattle.krb_logins.specs.Parties.{RealmRecord, TgsRecord, call_at}
-use Rattle.krb_logins.specs.Tickets.{AreOfOneRealm, HoldsGranting, IsAllowed, IsNextSpan, IsRenewable, IsTgsHonest, end_by, next_grant, tgs_body, ticket_for}
-use Rattle.krb_logins.proofs.AskedBits.{asked_by, asked_so, none_either, not_beyond, not_postdated}
+use Rattle.krb_logins.specs.Tickets.{AreOfOneRealm, HoldsGranting, IsNextSpan, IsRenewable, IsTgsHonest, end_by, next_grant, tgs_body, ticket_for}
+use Rattle.krb_logins.proofs.AskedBits.{asked_by, asked_so, none_beyond, none_either, not_beyond, not_postdated}
 use Rattle.krb_logins.proofs.FirstGranted.{found_lasting, found_to}
 use Rattle.krb_logins.proofs.Giving.{by_ask, by_need, by_refuse, past_found}
 use Rattle.krb_logins.proofs.GrantTaken.{session_key_sized, suite_of_key}
@@ -94,7 +94,7 @@ no_as_request content bytes e request is = let first = ap (λ b. get_or b 0 0) (
 
 -- the request's type and options are as they are to be, and its realm is this one
 for_realm : (client : ClientRecord) (options : TicketOptions) (service : List Bytes) (till : GeneralizedTime) (nonce : ℕ) (shown : Bytes) (policy : Policy) (realm : Bytes)
-    → (options.renews ≡ true → grants_renewable policy ≡ true) → client.realm ≡ realm
+    → has_option_beyond policy (options_of options) ≡ false → client.realm ≡ realm
     → (to_us policy realm (further_request_with client (client.suite ∷ []) options service till nonce shown)).gives (Ok tt)
 for_realm client options service till nonce shown policy realm allowed same =
     let beyond = has_option_beyond policy (options_of options) in
@@ -102,7 +102,7 @@ for_realm client options service till nonce shown policy realm allowed same =
     inl (
       tt,
       by_refuse {T = Unit {0}} {E = ℕ} (not (is_same_realm client.realm realm)) 68 (refuse beyond 13 (refuse postdated 10 (done (Ok tt)))) (Ok tt) (ap not (same_realm client.realm realm same))
-      (by_refuse {T = Unit {0}} {E = ℕ} beyond 13 (refuse postdated 10 (done (Ok tt))) (Ok tt) (not_beyond options policy allowed)
+      (by_refuse {T = Unit {0}} {E = ℕ} beyond 13 (refuse postdated 10 (done (Ok tt))) (Ok tt) allowed
       (by_refuse {T = Unit {0}} {E = ℕ} postdated 10 (done (Ok tt)) (Ok tt) (not_postdated options) refl)),
       refl,
     )
@@ -190,6 +190,16 @@ replied_to call rows bytes reply request is none x =
     (past_none (IsAsReq bytes) (sole_as_req bytes) (ask (IsTgsReq bytes) (sole_tgs_req bytes) (done None) (tgs_reply call))
     (λ v. as_reply call rows (account_of call.look (client_of v.req_body.0)) (account_of call.look (service_of v.req_body.0)) v) reply none x)
 
+-- rows of options
+unless : (asked case : Bool) → (asked ≡ true → case ≡ false) → (asked && case) ≡ false
+unless true case is = is refl
+unless false case is = refl
+
+for_both : (a b named : Bool) → (a ≡ true → named ≡ true) → (b ≡ true → named ≡ true) → ((a || b) && not named) ≡ false
+for_both true b named first second = ap not (first refl)
+for_both false true named first second = ap not (second refl)
+for_both false false named first second = refl
+
 -- the renew-till of a ticket's part is that of its grant
 same_till : (till : Option GeneralizedTime) → option_map (λ tagged. seconds_of tagged.0.0) (tagged_till till) ≡ option_map seconds_of till
 same_till None = refl
@@ -262,44 +272,55 @@ module _ (client : ClientRecord) (realm : RealmRecord) (rows : PkinitRows) (exch
 
   -- ---- what the options ask for
 
-  of_policy : renews ≡ true → grants_renewable realm.settings.policy ≡ true
-  of_policy = by renews honest.allowed
-    where
-      by : (b : Bool) → IsAllowed b client realm exchange granting → b ≡ true → grants_renewable realm.settings.policy ≡ true
-      by true allowed is = allowed.allowed
-      by false allowed is = absurd (cc (is))
+  may_forward : exchange.options.forwards ≡ true → realm.settings.policy.forwardable ≡ true
+  may_forward is = (honest.forwards is).allowed
 
-  module _ (allowed : IsRenewable client realm exchange granting) where
-    has_till : holds.grant.renew_till ≡ Some allowed.till
-    has_till = sym holds.held.renew_till ∙ allowed.renew_till
+  may_renew : exchange.options.renews ≡ true → grants_renewable realm.settings.policy ≡ true
+  may_renew is = (honest.renews is).allowed
 
-    renewable : is_renewable (ticket_part old) ≡ true
-    unfolding ticket_part
-    renewable =
-        and_from (bit_of (flags_of old.flags) 8) (is_some (tagged_till holds.grant.renew_till))
-        (subst (λ flags. bit_of flags 8 ≡ true) holds.held.flags allowed.flag)
-        (ap (λ (till : Option GeneralizedTime). is_some (tagged_till till)) has_till)
+  has_till : (renewal : IsRenewable client realm exchange granting) → holds.grant.renew_till ≡ Some renewal.till
+  has_till renewal = sym holds.held.renew_till ∙ renewal.renew_till
 
-    not_outlived : is_outlived exchange.realm_at (ticket_part old) ≡ false
-    unfolding ticket_part
-    not_outlived =
-        ap (λ (till : Option GeneralizedTime). option_map_or (λ tagged. nat_le (seconds_of tagged.0.0) start) (tagged_till till) true) has_till
-        ∙ lt-leb (seconds_of allowed.till) start allowed.later
+  forwardable : exchange.options.forwards ≡ true → bit_of (flags_of old.flags) 1 ≡ true
+  forwardable is = subst (λ flags. bit_of flags 1 ≡ true) holds.held.flags (honest.forwards is).flag
 
-    for_granting : table.is_granting realm.name exchange.service ≡ true
-    for_granting = same_name exchange.service (krbtgt_of realm.name) (allowed.service ∙ ap krbtgt_of one.same)
+  renewable : exchange.options.renews ≡ true → is_renewable (ticket_part old) ≡ true
+  unfolding ticket_part
+  renewable is =
+      let renewal = honest.renews is in
+      and_from (bit_of (flags_of old.flags) 8) (is_some (tagged_till holds.grant.renew_till))
+      (subst (λ flags. bit_of flags 8 ≡ true) holds.held.flags renewal.flag)
+      (ap (λ (till : Option GeneralizedTime). is_some (tagged_till till)) (has_till renewal))
 
-  abbrev by_options : Bool → Table (Result (Unit {0}) ℕ)
-  by_options b = table.by_options call (asked_by b) (ticket_part old) (principal_name 2 exchange.service)
+  not_outlived : exchange.options.renews ≡ true → is_outlived exchange.realm_at (ticket_part old) ≡ false
+  unfolding ticket_part
+  not_outlived is =
+      let renewal = honest.renews is in
+      ap (λ (till : Option GeneralizedTime). option_map_or (λ tagged. nat_le (seconds_of tagged.0.0) start) (tagged_till till) true) (has_till renewal)
+      ∙ lt-leb (seconds_of renewal.till) start renewal.later
 
-  allows : (b : Bool) → IsAllowed b client realm exchange granting → (by_options b).gives (Ok tt)
-  allows true allowed =
-      let granted = not (table.is_granting realm.name exchange.service) in
-      let outlived = is_outlived exchange.realm_at (ticket_part old) in
-      by_refuse {T = Unit {0}} {E = ℕ} (not (is_renewable (ticket_part old))) 13 (refuse outlived 32 (refuse granted 26 (done (Ok tt)))) (Ok tt) (ap not (renewable allowed))
-      (by_refuse {T = Unit {0}} {E = ℕ} outlived 32 (refuse granted 26 (done (Ok tt))) (Ok tt) (not_outlived allowed)
-      (by_refuse {T = Unit {0}} {E = ℕ} granted 26 (done (Ok tt)) (Ok tt) (ap not (for_granting allowed)) refl))
-  allows false allowed = refl
+  named_granting : exchange.service ≡ krbtgt_of client.realm → table.is_granting realm.name exchange.service ≡ true
+  named_granting service = same_name exchange.service (krbtgt_of realm.name) (service ∙ ap krbtgt_of one.same)
+
+  abbrev by_options : Table (Result (Unit {0}) ℕ)
+  by_options = table.by_options call (asked_by exchange.options.forwards renews) (ticket_part old) (principal_name 2 exchange.service)
+
+  allows : by_options.gives (Ok tt)
+  unfolding ticket_part
+  allows =
+      let forwards : Bool = exchange.options.forwards in
+      let no_flag : Bool = forwards && not (bit_of (flags_of old.flags) 1) in
+      let not_renewable : Bool = renews && not (is_renewable (ticket_part old)) in
+      let outlived : Bool = renews && is_outlived exchange.realm_at (ticket_part old) in
+      let for_other : Bool = (renews || forwards) && not (table.is_granting realm.name exchange.service) in
+      by_refuse {T = Unit {0}} {E = ℕ} no_flag 13 (refuse not_renewable 13 (refuse outlived 32 (refuse for_other 26 (done (Ok tt))))) (Ok tt)
+      (none_beyond forwards (bit_of (flags_of old.flags) 1) forwardable)
+      (by_refuse {T = Unit {0}} {E = ℕ} not_renewable 13 (refuse outlived 32 (refuse for_other 26 (done (Ok tt)))) (Ok tt)
+      (none_beyond renews (is_renewable (ticket_part old)) renewable)
+      (by_refuse {T = Unit {0}} {E = ℕ} outlived 32 (refuse for_other 26 (done (Ok tt))) (Ok tt)
+      (unless renews (is_outlived exchange.realm_at (ticket_part old)) not_outlived)
+      (by_refuse {T = Unit {0}} {E = ℕ} for_other 26 (done (Ok tt)) (Ok tt)
+      (for_both renews forwards (table.is_granting realm.name exchange.service) (λ is. named_granting (honest.renews is).service) (λ is. named_granting (honest.forwards is).service)) refl)))
 
   -- ---- the times of the next ticket
 
@@ -332,10 +353,9 @@ module _ (client : ClientRecord) (realm : RealmRecord) (rows : PkinitRows) (exch
       (is.ends ∙ ap (λ (o : Option Seconds). end_of life start o no_end) till) (renewed_lasts life start allowed.till lives allowed.later))
       r told
 
-  found_next : (b : Bool) → IsAllowed b client realm exchange granting → (r : Result Span ℕ) → (lasting_by b).gives r
-      → (span : Span) × IsNextSpan b realm exchange old span × (r ≡ Ok span)
-  found_next true allowed r x = found_renewed allowed r x
-  found_next false allowed r x = found_further allowed r x
+  found_next : (b : Bool) → renews ≡ b → (r : Result Span ℕ) → (lasting_by b).gives r → (span : Span) × IsNextSpan b realm exchange old span × (r ≡ Ok span)
+  found_next true is r x = found_renewed (honest.renews is) r x
+  found_next false is r x = found_further (honest.lasts is) r x
 
   module _ (second : GeneralizedTime) (of_moment : seconds_of second ≡ exchange.client_at / 1000000) (shown_bytes : Bytes) where
     abbrev text : Bytes
@@ -501,9 +521,9 @@ module _ (client : ClientRecord) (realm : RealmRecord) (rows : PkinitRows) (exch
           let a = past_refuse {T = Bytes} {E = ℕ} (not (is_some (realm.look client.components))) 6 (need (service_of body) 7 by_name) r (ap (λ o. not (is_some o)) one.known.found) x in
           let b = past_need {T = Bytes} {E = ℕ} (service_of body) 7 by_name (principal_name 2 exchange.service) r refl a in
           let c = past_need {T = Bytes} {E = ℕ} (realm.look exchange.service) 7 to_service honest.account r honest.found b in
-          let asked = subst (λ (own : AskedOptions). (asking own).gives r) (asked_so exchange.options realm.settings.policy of_policy) c in
-          let o = past_then {A = Unit {0}} {T = Bytes} (by_options renews) behind_options tt r (allows renews honest.allowed) asked in
-          let d = past_found {A = Span} {T = Bytes} (IsNextSpan renews realm exchange old) (lasting_by renews) in_span r (found_next renews honest.allowed) o in
+          let asked = subst (λ (own : AskedOptions). (asking own).gives r) (asked_so exchange.options realm.settings.policy may_forward may_renew) c in
+          let o = past_then {A = Unit {0}} {T = Bytes} by_options behind_options tt r allows asked in
+          let d = past_found {A = Span} {T = Bytes} (IsNextSpan renews realm exchange old) (lasting_by renews) in_span r (found_next renews refl) o in
           let e = past_need {T = Bytes} {E = ℕ} (table.first_granted without (pos (cipher_number client.suite) ∷ [])) 14 (in_suite d.0) client.suite r (own_first without client.suite client_granted) d.2 in
           let none = none_either ((asked_options realm.settings.policy body.kdc_options.0).forwards || (asked_options realm.settings.policy body.kdc_options.0).proxies) in
           let own = subst (λ addresses. IsTicketReply (addressed d.0 e.0 addresses) (tgs_reply_key client.suite session) honest.account exchange.realm_words e.2.0) none e.2.1 in
@@ -522,7 +542,7 @@ module _ (client : ClientRecord) (realm : RealmRecord) (rows : PkinitRows) (exch
       table_grants : (r : Result Bytes ℕ) → (tgs_table call request).gives r → IsGrantedBy r
       table_grants r x =
           let a = past_then {A = Unit {0}} {T = Bytes} (to_us realm.settings.policy realm.name request) (λ _. and_then (carried (padata_in request)) (of_carried call body)) tt r
-          (for_realm client exchange.options exchange.service exchange.till (nonce_of exchange.words) shown_bytes realm.settings.policy realm.name of_policy one.same) x in
+          (for_realm client exchange.options exchange.service exchange.till (nonce_of exchange.words) shown_bytes realm.settings.policy realm.name (not_beyond exchange.options realm.settings.policy may_forward may_renew) one.same) x in
           let b = past_then {A = ApReqInner} {T = Bytes} (carried (padata_in request)) (of_carried call body) presented r (is_carried shown_bytes presented is_presented) a in
           let c = past_need {T = Bytes} {E = ℕ} (realm.look (krbtgt_of realm.name)) 7 by_account holds.account r granting_found b in
           let d = past_then {A = EncTicketPartInner} {T = Bytes} (ticket_granting call holds.account presented) (of_ticket call body presented) (ticket_part old) r of_granting c in
@@ -541,10 +561,11 @@ module _ (client : ClientRecord) (realm : RealmRecord) (rows : PkinitRows) (exch
           (made.0, made.1, (made.2.0, made.2.1, (made.2.2.0, reply_is, made.2.2.1)))
 
   -- the moment of the grant is one that KerberosTime has
-  granted_at : (b : Bool) → IsAllowed b client realm exchange granting → IsMoment exchange.realm_at
-  granted_at true allowed =
-      granted_in_time life exchange.realm_at (Some (seconds_of allowed.till)) no_end (renewed_lasts life start allowed.till lives allowed.later)
-  granted_at false allowed = granted_in_time realm.settings.lifetime exchange.realm_at (Some (seconds_of granting.endtime)) (seconds_of exchange.till) allowed
+  granted_at : (b : Bool) → renews ≡ b → IsMoment exchange.realm_at
+  granted_at true is =
+      let renewal = honest.renews is in
+      granted_in_time life exchange.realm_at (Some (seconds_of renewal.till)) no_end (renewed_lasts life start renewal.till lives renewal.later)
+  granted_at false is = granted_in_time realm.settings.lifetime exchange.realm_at (Some (seconds_of granting.endtime)) (seconds_of exchange.till) (honest.lasts is)
 
   -- the realm has a reply, and grants the next ticket
   pub next_granted : (request : Bytes) → AsksTgsWith client (client.suite ∷ []) exchange.options granting exchange.service exchange.till exchange.client_at exchange.words request
@@ -553,7 +574,7 @@ module _ (client : ClientRecord) (realm : RealmRecord) (rows : PkinitRows) (exch
   next_granted request asks =
       let own = asks.authenticates in
       let presents = subst (λ a. IsApRequest granting 7 false a (authenticator_confounder (cipher_confounder_size granting.suite) exchange.words) asks.request) own.authenticates.is_made own.presents in (
-        λ are. replies_at realm rows exchange.realm_at exchange.realm_words request one.keyed (granted_at renews honest.allowed) honest.enough are,
+        λ are. replies_at realm rows exchange.realm_at exchange.realm_words request one.keyed (granted_at renews refl) honest.enough are,
         λ reply replied.
             let it = granted own.authenticates.second own.authenticates.of_moment asks.request presents request reply asks.encoding replied in
             record { span = it.0; lasts = it.1; till = it.2.0; renews = it.2.1; bytes = it.2.2.0; is = it.2.2.1; replied = it.2.2.2 },

@@ -1,15 +1,12 @@
 -- The requests of clients can be written: nothing is missing in their trees.
 use Rattle.std.proofs.Common.{◌≡◌, ℕ, ◌-◌, Bool, true, false, List, [], ◌∷◌, Option, None, Some, refl, sym, subst}
 use Rattle.std.proofs.lemmas.Bool.{and_parts}
-use Rattle.std.specs.Option.{option_map}
 use Rattle.asn1_der.specs.Tree.{AreWhole, IsWhole, Trees, Writes, leaf, none, put, trees_of, wrapped}
 use Rattle.asn1_der.proofs.Spelling.{whole-wrapped}
 use Rattle.asn1_leaves.specs.CharSets.{is_general_string}
 use Rattle.asn1_leaves.specs.declared.date.GeneralizedTime.{GeneralizedTime}
 use Rattle.picky_asn1.specs.BitString.{bit_content, is_bit_string}
 use Rattle.picky_asn1.specs.Bytes.{Bytes}
-use Rattle.picky_asn1.specs.declared.wrapper.GeneralizedTimeAsn1.{GeneralizedTimeAsn1}
-use Rattle.picky_asn1_der.specs.declared.wrapper.ExplicitContextTag.{ExplicitContextTag}
 use Rattle.krb_crypto.specs.declared.suite.CipherSuite.{CipherSuite}
 use Rattle.krb_messages.specs.RandomBytes.{Random}
 use Rattle.krb_messages.specs.Trees as held
@@ -23,7 +20,7 @@ use Rattle.krb_kdc_exchanges.proofs.PartTrees.{addresses_tree, host_address_tree
 use Rattle.krb_client.specs.AsRequest.{as_body_of_suites, as_body_with, as_request_of}
 use Rattle.krb_client.specs.Client.{ClientRecord}
 use Rattle.krb_client.specs.Messages.{as_request_bytes, encrypted_bytes, tgs_request_bytes, timestamp_bytes}
-use Rattle.krb_client.specs.Options.{options_of, plain_options}
+use Rattle.krb_client.specs.Options.{options_of, plain_options, rtime_of}
 use Rattle.krb_client.specs.Requests.{etypes}
 use Rattle.krb_client.specs.TgsRequest.{further_request, further_request_with}
 use Rattle.krb_client.specs.declared.options.TicketOptions.{TicketOptions}
@@ -92,12 +89,12 @@ whole_options options =
     is false = refl
 
 -- rtime, if there is one, before further fields
-abbrev tagged_rtime : Option GeneralizedTime → Option (ExplicitContextTag 6 GeneralizedTimeAsn1)
-tagged_rtime rtime = option_map (λ time. record { 0 = record { 0 = time } }) rtime
-
-whole_rtime : (rest : Trees) → AreWhole rest → (rtime : Option GeneralizedTime) → AreWhole (put (λ tagged. wrapped 166 (time_tree tagged.0.0)) (tagged_rtime rtime) rest)
-whole_rtime rest whole None = whole
-whole_rtime rest whole (Some time) = ((tt, tt), whole)
+whole_rtime : (rest : Trees) → AreWhole rest → (options : TicketOptions) → AreWhole (put (λ tagged. wrapped 166 (time_tree tagged.0.0)) (rtime_of options) rest)
+whole_rtime rest whole options = by options.rtime
+  where
+    by : (rtime : Option GeneralizedTime) → AreWhole (put (λ tagged. wrapped 166 (time_tree tagged.0.0)) (rtime_of (record options { rtime = rtime })) rest)
+    by None = whole
+    by (Some time) = ((tt, tt), whole)
 
 -- the request for a first ticket, with any padata, suites and options
 whole_as_request : (padata : PaData) (client : ClientRecord) (suites : List CipherSuite) (options : TicketOptions) (service : List Bytes) (till : GeneralizedTime) (words : Random)
@@ -118,7 +115,7 @@ whole_as_request padata client suites options service till words realm name of_s
                 (((tt, tt), ((whole_texts 27 client.components name, tt), tt)), tt),
                 (
                   whole-wrapped 162 (leaf (is_general_string client.realm) 27 client.realm) (whole_text 27 client.realm realm),
-                  ((((tt, tt), ((whole_texts 27 service of_service, tt), tt)), tt), ((tt, tt), whole_rtime _ ((tt, tt), ((whole_etypes suites, tt), tt)) options.rtime)),
+                  ((((tt, tt), ((whole_texts 27 service of_service, tt), tt)), tt), ((tt, tt), whole_rtime _ ((tt, tt), ((whole_etypes suites, tt), tt)) options)),
                 ),
               ),
             ),
@@ -163,7 +160,7 @@ whole_tgs_request client suites options service till nonce shown realm of_servic
               whole_options options,
               (
                 whole-wrapped 162 (leaf (is_general_string client.realm) 27 client.realm) (whole_text 27 client.realm realm),
-                ((((tt, tt), ((whole_texts 27 service of_service, tt), tt)), tt), ((tt, tt), whole_rtime _ ((tt, tt), ((whole_etypes suites, tt), tt)) options.rtime)),
+                ((((tt, tt), ((whole_texts 27 service of_service, tt), tt)), tt), ((tt, tt), whole_rtime _ ((tt, tt), ((whole_etypes suites, tt), tt)) options)),
               ),
             ),
             tt,

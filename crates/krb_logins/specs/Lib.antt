@@ -8,7 +8,7 @@ pub mod Authenticated
 pub mod Held
 pub mod Laws
 pub mod Tickets
-pub mod Renewals
+pub mod TicketChains
 pub mod Uses
 pub mod Choices
 pub mod ApExchanges

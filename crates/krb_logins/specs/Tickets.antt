@@ -16,7 +16,7 @@ use Rattle.krb_realm_accounts.specs.Account.{AccountRecord}
 use Rattle.krb_realm_accounts.specs.Names.{AreComponents, IsRealmName}
 use Rattle.krb_tickets.specs.Grant.{GrantRecord}
 use Rattle.krb_tickets.specs.Parts.{flags_of, session_key_of, ticket_part}
-use Rattle.krb_tickets.specs.declared.flag_bits.TheConstants.{RENEWABLE}
+use Rattle.krb_tickets.specs.declared.flag_bits.TheConstants.{FORWARDABLE, RENEWABLE}
 use Rattle.krb_tickets.specs.declared.grant.TicketFlags.{TicketFlags}
 use Rattle.krb_kdc_exchanges.specs.Calls.{AreKeyed}
 use Rattle.krb_kdc_exchanges.specs.Grants.{initial_flags}
@@ -90,13 +90,15 @@ pub record IsRenewable (client : ClientRecord) (realm : RealmRecord) (exchange :
   pub renew_till : granting.renew_till ≡ Some till
   pub later : start_of exchange.realm_at < seconds_of till
 
--- the next ticket ends after its start, or the presented one can be renewed
-abbrev pub IsAllowed : Bool → ClientRecord → RealmRecord → TgsRecord → CredentialRecord → Type 0
-IsAllowed false client realm exchange granting = start_of exchange.realm_at < end_by realm exchange granting
-IsAllowed true client realm exchange granting = IsRenewable client realm exchange granting
+-- it can be forwarded: the policy allows it, the ticket is forwardable, and the client asks for the ticket-granting service (RFC 4120,
+-- sections 2.6 and 3.3.3)
+pub record IsForwardable (client : ClientRecord) (realm : RealmRecord) (exchange : TgsRecord) (granting : CredentialRecord) : Type 0 where
+  pub allowed : realm.settings.policy.forwardable ≡ true
+  pub service : exchange.service ≡ krbtgt_of client.realm
+  pub flag : bit_of granting.flags FORWARDABLE ≡ true
 
 -- An honest TGS exchange: the realm has an account of the service, the client's time is near the realm's, and the presented ticket is valid
--- now and allows what is asked for.
+-- now and allows what is asked for. The next ticket ends after its start; of a renewed one this follows.
 pub record IsTgsHonest (client : ClientRecord) (realm : RealmRecord) (exchange : TgsRecord) (granting : CredentialRecord) : Type 0 where
   pub enough : AreEnoughForReply exchange.realm_words
   pub named : AreComponents exchange.service
@@ -104,7 +106,9 @@ pub record IsTgsHonest (client : ClientRecord) (realm : RealmRecord) (exchange :
   pub found : realm.look exchange.service ≡ Some account
   pub near : is_far (realm_skew realm) exchange.realm_at exchange.client_at ≡ false
   pub valid : IsTicketInTime (seconds_of granting.starttime) (seconds_of granting.endtime) (realm_skew realm) exchange.realm_at
-  pub allowed : IsAllowed exchange.options.renews client realm exchange granting
+  pub lasts : exchange.options.renews ≡ false → start_of exchange.realm_at < end_by realm exchange granting
+  pub renews : exchange.options.renews ≡ true → IsRenewable client realm exchange granting
+  pub forwards : exchange.options.forwards ≡ true → IsForwardable client realm exchange granting
 
 -- An honest AP exchange: client, realm and service are of one realm, which knows the service, the client's time is near the service's, and the
 -- service admitted no authenticator of this client and time before.
@@ -121,11 +125,12 @@ abbrev pub as_body_asked : ClientRecord → TicketOptions → LoginRecord → Kd
 as_body_asked client options login = as_body_with client (client.suite ∷ []) options (krbtgt_of client.realm) login.till login.words_as
 
 -- An honest AS exchange: the realm has its ticket-granting service and authenticates the client, the first ticket ends after its start, and
--- no renewal is asked for.
+-- it is asked for as no renewed or forwarded one.
 pub record IsAsHonest (client : ClientRecord) (options : TicketOptions) (means : MeansRecord) (realm : RealmRecord) (rows : PkinitRows) (account : AccountRecord) (login : LoginRecord) : Type 0 where
   pub enough : AreEnoughForReply login.realm_words_as
   pub granting : IsGranting realm
-  pub no_renewal : options.renews ≡ false
+  pub not_renewed : options.renews ≡ false
+  pub not_forwarded : options.forwards ≡ false
   pub lasts : start_of login.realm_as < first_end realm login
   pub authenticated : IsAuthenticatedFor client means realm rows account login (as_body_asked client options login)
 

@@ -16,8 +16,8 @@ ghost use Rattle.krb_logins.specs.Laws.{IsClientAdmitted, IsFirstGranted, IsFirs
 ghost use Rattle.krb_logins.specs.LoginRun.{AsExchange, AsExchangeWith, Exchanges, Login, LoginRun, TgsExchangeWith};
 ghost use Rattle.krb_logins.specs.Near.{AreNear, IsLasting, common_skew};
 ghost use Rattle.krb_logins.specs.Parties.{LoginRecord, RealmRecord, RememberedRecord, TgsRecord};
-ghost use Rattle.krb_logins.specs.Renewals.{IsRenewedHonest, IsTicketLoginHonest, RenewedLogin, TicketLogin};
 ghost use Rattle.krb_logins.specs.Steps.{AreDecided};
+ghost use Rattle.krb_logins.specs.TicketChains.{ChainLogin, IsChainLoginHonest, IsTicketLoginHonest, TicketLogin};
 ghost use Rattle.krb_logins.specs.Tickets.{AreOfOneRealm, HoldsFirst, HoldsGranting, HoldsNext, IsAsHonest, IsTgsHonest};
 ghost use Rattle.krb_logins.specs.Uses.{AreUses, AreUsesMet, IsVisit, IsVisitMet, UseRecord, VisitRecord};
 ghost use Rattle.krb_logins.specs.declared.refusal.LoginRefusal.{LoginRefusal};
@@ -102,7 +102,8 @@ pub fn first_held<M: Means, P: Pkinit>(means: &M, pkinit: &P)
 {}
 
 /// In an honest TGS exchange by a ticket-granting ticket that it holds, the client takes the next ticket, or memory runs out. The presented
-/// ticket may be a first one, a renewed one or a forwarded one. The next one is for a service, or it is the presented one renewed.
+/// ticket may be a first one, a renewed one or a forwarded one. The next one is for a service, or it is the presented one renewed or
+/// forwarded.
 pub fn next_held<P: Pkinit>(pkinit: &P)
     ensures { (client : ClientRecord) (realm : RealmRecord) (exchange : TgsRecord) (granting : CredentialRecord) (result : Result CredentialRecord LoginRefusal)
         → AreOfOneRealm client realm → (holds : HoldsGranting client realm granting) → IsTgsHonest client realm exchange granting
@@ -118,12 +119,13 @@ pub fn one_key_by_ticket<P: Pkinit>(pkinit: &P)
         → TicketLogin client realm (P.rows pkinit.now) service login granting before result after → IsOneKey client result }
 {}
 
-/// Every honest login over renewed tickets ends so: an AS exchange with options, any number of renewals, and the login by the last ticket.
-pub fn one_key_over_renewals<M: Means, P: Pkinit>(means: &M, pkinit: &P)
+/// Every honest login over renewed and forwarded tickets ends so: an AS exchange with options, any number of renewals and forwardings, and
+/// the login by the last ticket.
+pub fn one_key_over_chain<M: Means, P: Pkinit>(means: &M, pkinit: &P)
     ensures { (client : ClientRecord) (options : TicketOptions) (realm : RealmRecord) (service : ServiceRecord) (login : LoginRecord) (exchanges : List TgsRecord) (before : RememberedRecord)
         (result : Result Login LoginRefusal) (after : RememberedRecord)
-        → IsRenewedHonest client options (M.means means.now) realm (P.rows pkinit.now) service login exchanges before
-        → RenewedLogin client options (M.means means.now) realm (P.rows pkinit.now) service login exchanges before result after → IsOneKey client result }
+        → IsChainLoginHonest client options (M.means means.now) realm (P.rows pkinit.now) service login exchanges before
+        → ChainLogin client options (M.means means.now) realm (P.rows pkinit.now) service login exchanges before result after → IsOneKey client result }
 {}
 
 /// A login has one outcome: what it answers, and what the service remembers after it. The only exception is running out of memory.

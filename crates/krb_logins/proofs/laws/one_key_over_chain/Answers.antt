@@ -1,5 +1,5 @@
-use Rattle.krb_logins.proofs.Renewed.{one_key}
-use Rattle.krb_logins.proofs.laws.one_key_over_renewals.Goals as goal
+use Rattle.krb_logins.proofs.Chained.{one_key}
+use Rattle.krb_logins.proofs.laws.one_key_over_chain.Goals as goal
 
 pub returns : goal.returns
 returns g c = λ client options realm service login exchanges before result after honest run.
