@@ -5,7 +5,7 @@ use Rattle.asn1_leaves.specs.CharSets.{is_general_string}
 use Rattle.asn1_leaves.specs.GeneralizedTime.{seconds_of}
 use Rattle.asn1_leaves.specs.declared.date.GeneralizedTime.{GeneralizedTime}
 use Rattle.picky_asn1.specs.Bytes.{Bytes}
-use Rattle.krb_time.specs.Units.{Micros, Seconds}
+use Rattle.krb_time.specs.Units.{Seconds}
 use Rattle.krb_crypto.specs.Suites.{cipher_confounder_size}
 use Rattle.krb_messages.specs.RandomBytes.{ticket_confounder}
 use Rattle.krb_messages.specs.declared.data_types.authenticator.AuthenticatorInner.{AuthenticatorInner}
@@ -13,7 +13,6 @@ use Rattle.krb_tickets.specs.Sealing.{Seals}
 use Rattle.krb_tickets.specs.Grant.{GrantRecord}
 use Rattle.krb_tickets.specs.Parts.{ticket_part}
 use Rattle.krb_tickets.specs.Sealed.{ticket_part_bytes}
-use Rattle.krb_kdc_exchanges.specs.Times.{start_of}
 use Rattle.krb_kdc_exchanges.specs.declared.span.Span.{Span}
 use Rattle.krb_ap_requests.specs.Presents.{Choice}
 use Rattle.krb_client.specs.Client.{ClientRecord, CredentialRecord}

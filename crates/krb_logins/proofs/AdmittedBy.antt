@@ -4,10 +4,8 @@ use Rattle.asn1_leaves.specs.declared.date.GeneralizedTime.{GeneralizedTime}
 use Rattle.picky_asn1.specs.Bytes.{Bytes}
 use Rattle.asn1_leaves.specs.GeneralizedTime.{seconds_of}
 use Rattle.krb_crypto.specs.Suites.{cipher_confounder_size}
-use Rattle.krb_messages.specs.Names.{components}
 use Rattle.krb_messages.specs.RandomBytes.{AreEnoughForReply, Random, authenticator_confounder}
 use Rattle.krb_messages.specs.declared.data_types.authenticator.AuthenticatorInner.{AuthenticatorInner}
-use Rattle.krb_tickets.specs.Sealing.{encryption_key}
 use Rattle.krb_tickets.specs.Parts.{session_key_of, ticket_part}
 use Rattle.krb_tickets.specs.Grant.{GrantRecord}
 use Rattle.krb_ap_requests.specs.Acceptable.{presented_choice}
@@ -16,7 +14,7 @@ use Rattle.krb_service.specs.ApReply.{IsReplyTo}
 use Rattle.krb_ap_requests.specs.Presents.{Choice, Presents}
 use Rattle.krb_ap_requests.specs.declared.presented.Presented.{Presented}
 use Rattle.krb_client.specs.ApReply.{TakesApReply}
-use Rattle.krb_client.specs.ApRequest.{AsksAp, ap_asked}
+use Rattle.krb_client.specs.ApRequest.{ap_asked}
 use Rattle.krb_client.specs.Authenticators.{IsApRequest, authenticator_with, authenticator_parts_of}
 use Rattle.krb_client.specs.Client.{ClientRecord, CredentialRecord}
 use Rattle.krb_client.specs.declared.refusal.TakeRefusal.{TakeRefusal}

@@ -12,6 +12,7 @@ use Rattle.krb_messages.specs.declared.data_types.encrypted_data.EncryptedData.{
 use Rattle.krb_messages.specs.declared.data_types.pa_data.PaData.{PaData}
 use Rattle.krb_messages.specs.declared.data_types.pa_enc_timestamp.PaEncTsEnc.{PaEncTsEnc}
 use Rattle.krb_messages.specs.declared.messages.kdc_req.KdcReq.{KdcReq}
+use Rattle.krb_messages.specs.declared.messages.kdc_req_body.KdcReqBody.{KdcReqBody}
 use Rattle.krb_realm_accounts.specs.Account.{AccountRecord}
 use Rattle.decision_tables.specs.Tables.{Table, ask, done, need, refuse}
 use Rattle.krb_tickets.specs.Sealing.{sealed_opens}
@@ -30,8 +31,8 @@ use Rattle.krb_client.specs.Messages.{encrypted_bytes, timestamp_bytes}
 use Rattle.krb_tickets.specs.MethodData.{pa_data_of}
 use Rattle.krb_client.specs.EncryptedTimestamps.{IsSealedTime, IsPaEncTimestamp, by_key, timestamp_of}
 use Rattle.krb_service.specs.Service.{ServiceRecord}
-use Rattle.krb_logins.specs.Authenticated.{IsAgreedKey, IsAuthenticated, as_body_of_login, first_asked}
-use Rattle.krb_logins.specs.Honest.{AreEnough, AreParties, IsGranting, IsHonestByPassword}
+use Rattle.krb_logins.specs.Authenticated.{IsAgreedKey, IsAuthenticatedFor, as_body_of_login, first_asked}
+use Rattle.krb_logins.specs.Honest.{AreEnough, AreParties, IsGranting, IsHonestByPassword, realm_skew}
 use Rattle.krb_logins.specs.Laws.{IsMet}
 use Rattle.krb_logins.specs.Parties.{LoginRecord, RealmRecord, RememberedRecord, call_at}
 use Rattle.krb_logins.specs.Steps.{AreDecided}
@@ -96,25 +97,22 @@ own_key call rows account name request none shown r x =
     let timed = subst (λ padata. (authenticated_by call rows account name request padata).gives r) none x in
     past_then {A = Unit {0}} {T = ReplyKeyRecord} (timestamped call account (padata_in request)) (λ _. done (Ok (as_reply_key account))) tt r shown timed
 
-module _ (client : ClientRecord) (key : Bytes) (realm : RealmRecord) (rows : PkinitRows) (service : ServiceRecord) (before : RememberedRecord) (login : LoginRecord)
-    (by : IsHonestByPassword client key realm service before login) where
+module _ (client : ClientRecord) (key : Bytes) (realm : RealmRecord) (rows : PkinitRows) (account : AccountRecord) (login : LoginRecord) (body : KdcReqBody)
+    (suite : account.suite ≡ client.suite) (shared : account.key ≡ key) (near : is_far (realm_skew realm) login.realm_as login.client_as ≡ false) where
   abbrev call : CallRecord
   call = call_at realm login.realm_as login.realm_words_as
-
-  abbrev account : AccountRecord
-  account = by.honest.client.account
 
   abbrev confounder : Bytes
   confounder = timestamp_confounder (cipher_confounder_size client.suite) login.words_as
 
   in_time : is_far (skew_of call) login.realm_as login.client_as ≡ false
-  in_time = by.honest.timely.as_near
+  in_time = near
 
   shown : (sealed : EncryptedData) → IsSealedTime client.suite key login.client_as confounder sealed
       → (timestamped call account (pa_data_of 2 (encrypted_bytes sealed) ∷ [])).gives (Ok tt)
   shown sealed it =
       shown_in_time call account (encrypted_bytes sealed) (timestamp_of it.second (login.client_as % 1000000)) login.client_as
-      (timestamp_opens client.suite key account login.client_as confounder sealed by.honest.client.suite by.shared it)
+      (timestamp_opens client.suite key account login.client_as confounder sealed suite shared it)
       (timestamp_told it.second login.client_as it.of_moment) in_time
 
   -- the reply key is that key
@@ -122,17 +120,17 @@ module _ (client : ClientRecord) (key : Bytes) (realm : RealmRecord) (rows : Pki
   agreed = record {
     exchange = refl;
     usage = refl;
-    taken = λ reply padata k given. given ∙ (λ i. Ok (record { suite = sym by.honest.client.suite i; bytes = sym by.shared i }));
+    taken = λ reply padata k given. given ∙ (λ i. Ok (record { suite = sym suite i; bytes = sym shared i }));
   }
 
   replied_under : (padata : PaData) → IsPaEncTimestamp client.suite key login.client_as login.words_as padata → (r : Result ReplyKeyRecord ℕ)
-      → (authenticated call rows account client.components (as_request_of padata (as_body_of_login client login))).gives r → r ≡ Ok (as_reply_key account)
+      → (authenticated call rows account client.components (as_request_of padata body)).gives r → r ≡ Ok (as_reply_key account)
   replied_under padata it r x =
-      let own = subst (λ p. (authenticated call rows account client.components (as_request_of p (as_body_of_login client login))).gives r) it.made x in
-      own_key call rows account client.components (as_request_of (pa_data_of 2 (encrypted_bytes it.encrypted_timestamp)) (as_body_of_login client login)) (no_pkinit (encrypted_bytes it.encrypted_timestamp))
+      let own = subst (λ p. (authenticated call rows account client.components (as_request_of p body)).gives r) it.made x in
+      own_key call rows account client.components (as_request_of (pa_data_of 2 (encrypted_bytes it.encrypted_timestamp)) body) (no_pkinit (encrypted_bytes it.encrypted_timestamp))
       (shown it.encrypted_timestamp it.sealed_time) r own
 
-  pub authenticated_by_key : IsAuthenticated client (by_key client.suite key) realm rows account login
+  pub authenticated_by_key : IsAuthenticatedFor client (by_key client.suite key) realm rows account login body
   authenticated_by_key = record {
     asks = λ none. none;
     shown = λ padata it r x. (as_reply_key account, replied_under padata it r x, agreed);
@@ -148,7 +146,8 @@ met_by_password client key realm rows service before login parties enough granti
   granting = granting;
   keyed = keyed;
   honest = by.honest;
-  authenticated = authenticated_by_key client key realm rows service before login by;
+  authenticated = authenticated_by_key client key realm rows by.honest.client.account login (as_body_of_login client login)
+      by.honest.client.suite by.shared by.honest.timely.as_near;
 }
 
 -- a key refuses no request

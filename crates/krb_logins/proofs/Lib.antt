@@ -32,6 +32,7 @@ mod ApEnds
 mod AdmittedBy
 mod ByTicket
 mod Chained
+mod RenewedTickets
 mod OneKey
 pub mod EndsWithOneKey
 mod Uses

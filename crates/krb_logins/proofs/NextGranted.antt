@@ -102,8 +102,8 @@ for_realm client options service till nonce shown policy realm allowed same =
     inl (
       tt,
       by_refuse {T = Unit {0}} {E = ℕ} (not (is_same_realm client.realm realm)) 68 (refuse beyond 13 (refuse postdated 10 (done (Ok tt)))) (Ok tt) (ap not (same_realm client.realm realm same))
-      (by_refuse {T = Unit {0}} {E = ℕ} beyond 13 (refuse postdated 10 (done (Ok tt))) (Ok tt) allowed
-      (by_refuse {T = Unit {0}} {E = ℕ} postdated 10 (done (Ok tt)) (Ok tt) (not_postdated options) refl)),
+          (by_refuse {T = Unit {0}} {E = ℕ} beyond 13 (refuse postdated 10 (done (Ok tt))) (Ok tt) allowed
+          (by_refuse {T = Unit {0}} {E = ℕ} postdated 10 (done (Ok tt)) (Ok tt) (not_postdated options) refl)),
       refl,
     )
 
@@ -201,7 +201,7 @@ for_both false true named first second = ap not (second refl)
 for_both false false named first second = refl
 
 -- the renew-till of a ticket's part is that of its grant
-same_till : (till : Option GeneralizedTime) → option_map (λ tagged. seconds_of tagged.0.0) (tagged_till till) ≡ option_map seconds_of till
+pub same_till : (till : Option GeneralizedTime) → option_map (λ tagged. seconds_of tagged.0.0) (tagged_till till) ≡ option_map seconds_of till
 same_till None = refl
 same_till (Some time) = refl
 

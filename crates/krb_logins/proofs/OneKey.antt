@@ -1,9 +1,8 @@
 -- Every honest login leaves client and service with one key: its steps in a row, by what holds of each.
-use Rattle.std.proofs.Common.{◌≡◌, true, Option, Result, Ok, Err, inl, inr, refl, sym, subst}
+use Rattle.std.proofs.Common.{◌≡◌, true, Result, Ok, Err, inl, inr, sym, subst}
 use Rattle.picky_asn1.specs.Bytes.{Bytes}
 use Rattle.krb_realm_accounts.specs.Names.{are_components}
 use Rattle.krb_kdc_exchanges.specs.Call.{CallRecord}
-use Rattle.krb_kdc_exchanges.specs.Replies.{Replies}
 use Rattle.krb_kdc_exchanges.specs.Rows.{PkinitRows}
 use Rattle.krb_kdc_exchanges.specs.declared.span.Span.{Span}
 use Rattle.krb_messages.specs.TicketGranting.{krbtgt_of}

@@ -200,3 +200,13 @@ pub record IsNext (client : ClientRecord) (realm : RealmRecord) (exchange : TgsR
 pub record HoldsNext (client : ClientRecord) (realm : RealmRecord) (exchange : TgsRecord) (granting : CredentialRecord) (holds : HoldsGranting client realm granting) (credential : CredentialRecord) : Type 0 where
   pub holds_it : Holds client realm exchange.service credential
   pub next : IsNext client realm exchange (ticket_for client realm (krbtgt_of client.realm) holds.words holds.grant) holds_it.grant
+
+-- What the client sees of a renewed ticket: authtime and renew-till are those of the presented one, it starts now, lasts as long as that one,
+-- but no longer than to its renew-till, and can be renewed again.
+pub record IsRenewed (exchange : TgsRecord) (granting credential : CredentialRecord) : Type 0 where
+  pub authtime : credential.authtime ≡ granting.authtime
+  pub starts : seconds_of credential.starttime ≡ start_of exchange.realm_at
+  pub ends : seconds_of credential.endtime
+      ≡ end_of (seconds_of granting.endtime - seconds_of granting.starttime) (start_of exchange.realm_at) (option_map seconds_of granting.renew_till) no_end
+  pub renew_till : credential.renew_till ≡ granting.renew_till
+  pub renewable : bit_of credential.flags RENEWABLE ≡ true

@@ -1,24 +1,28 @@
 //! What holds of every honest login, step by step, and of what a client writes to a service. Each is a function that does
 //! nothing when it runs: its contract is the law.
-ghost use Rattle.std.specs.Prelude.{◌≡◌, ◌⊎◌, ℕ, Bool, List, Result, Ok};
+ghost use Rattle.std.specs.Prelude.{◌≡◌, ◌⊎◌, ℕ, Bool, true, false, List, Result, Ok};
 ghost use Rattle.std.specs.List.{All};
 ghost use Rattle.krb_crypto.specs.Suites.{cipher_confounder_size};
+ghost use Rattle.krb_time.specs.Skew.{is_far};
 ghost use Rattle.krb_messages.specs.RandomBytes.{authenticator_confounder};
+ghost use Rattle.krb_messages.specs.declared.messages.kdc_req_body.KdcReqBody.{KdcReqBody};
+ghost use Rattle.krb_realm_accounts.specs.Account.{AccountRecord};
 ghost use Rattle.krb_ap_requests.specs.Presents.{Presents};
 ghost use Rattle.krb_kdc_exchanges.specs.Calls.{AreKeyed};
 ghost use Rattle.krb_client.specs.Client.{ClientRecord, CredentialRecord};
 ghost use Rattle.krb_client.specs.EncryptedTimestamps.{by_key};
 ghost use Rattle.krb_client.specs.declared.options.TicketOptions.{TicketOptions};
 ghost use Rattle.krb_service.specs.Service.{IsService, ServiceRecord};
+ghost use Rattle.krb_logins.specs.Authenticated.{IsAuthenticatedFor};
 ghost use Rattle.krb_logins.specs.Choices.{AsksService, choice_by};
-ghost use Rattle.krb_logins.specs.Honest.{AreEnough, AreParties, Ends, IsGranting, IsHonestByPassword, IsOneKey, IsTimely, WantsMemory};
+ghost use Rattle.krb_logins.specs.Honest.{AreEnough, AreParties, Ends, IsGranting, IsHonestByPassword, IsOneKey, IsTimely, WantsMemory, realm_skew};
 ghost use Rattle.krb_logins.specs.Laws.{IsClientAdmitted, IsFirstGranted, IsFirstTaken, IsFurtherGranted, IsFurtherTaken, IsMet};
 ghost use Rattle.krb_logins.specs.LoginRun.{AsExchange, AsExchangeWith, Exchanges, Login, LoginRun, TgsExchangeWith};
 ghost use Rattle.krb_logins.specs.Near.{AreNear, IsLasting, common_skew};
 ghost use Rattle.krb_logins.specs.Parties.{LoginRecord, RealmRecord, RememberedRecord, TgsRecord};
 ghost use Rattle.krb_logins.specs.Steps.{AreDecided};
 ghost use Rattle.krb_logins.specs.TicketChains.{ChainLogin, IsChainLoginHonest, IsTicketLoginHonest, TicketLogin};
-ghost use Rattle.krb_logins.specs.Tickets.{AreOfOneRealm, HoldsFirst, HoldsGranting, HoldsNext, IsAsHonest, IsTgsHonest};
+ghost use Rattle.krb_logins.specs.Tickets.{AreOfOneRealm, HoldsFirst, HoldsGranting, HoldsNext, IsAsHonest, IsRenewable, IsRenewed, IsTgsHonest};
 ghost use Rattle.krb_logins.specs.Uses.{AreUses, AreUsesMet, IsVisit, IsVisitMet, UseRecord, VisitRecord};
 ghost use Rattle.krb_logins.specs.declared.refusal.LoginRefusal.{LoginRefusal};
 
@@ -94,6 +98,13 @@ pub fn several_uses<M: Means, P: Pkinit>(means: &M, pkinit: &P)
         → All (λ used. IsOneKey client used.result) uses }
 {}
 
+/// By the key of its account a client is authenticated in each request whose time is near the realm's, whatever the request's body asks for.
+pub fn authenticated_by_key<P: Pkinit>(pkinit: &P)
+    ensures { (client : ClientRecord) (key : List ℕ) (realm : RealmRecord) (account : AccountRecord) (login : LoginRecord) (body : KdcReqBody)
+        → account.suite ≡ client.suite → account.key ≡ key → is_far (realm_skew realm) login.realm_as login.client_as ≡ false
+        → IsAuthenticatedFor client (by_key client.suite key) realm (P.rows pkinit.now) account login body }
+{}
+
 /// In an honest AS exchange with options the client takes the first ticket, as the realm's policy grants it, or memory runs out.
 pub fn first_held<M: Means, P: Pkinit>(means: &M, pkinit: &P)
     ensures { (client : ClientRecord) (options : TicketOptions) (realm : RealmRecord) (login : LoginRecord) (one : AreOfOneRealm client realm) (result : Result CredentialRecord LoginRefusal)
@@ -108,6 +119,13 @@ pub fn next_held<P: Pkinit>(pkinit: &P)
     ensures { (client : ClientRecord) (realm : RealmRecord) (exchange : TgsRecord) (granting : CredentialRecord) (result : Result CredentialRecord LoginRefusal)
         → AreOfOneRealm client realm → (holds : HoldsGranting client realm granting) → IsTgsHonest client realm exchange granting
         → TgsExchangeWith client realm (P.rows pkinit.now) exchange granting result → Ends (HoldsNext client realm exchange granting holds) result }
+{}
+
+/// A renewed ticket lasts as long as the presented one, but no longer than to its renew-till, and can be renewed again.
+pub fn renewed_as_seen()
+    ensures { (client : ClientRecord) (realm : RealmRecord) (exchange : TgsRecord) (granting credential : CredentialRecord) (holds : HoldsGranting client realm granting)
+        → exchange.options.renews ≡ true → IsRenewable client realm exchange granting → HoldsNext client realm exchange granting holds credential
+        → IsRenewed exchange granting credential }
 {}
 
 /// Every honest login by a ticket-granting ticket that the client holds, however it came by it, ends with one session key on both sides,
