@@ -5,7 +5,8 @@ use krb_client::TakeRefusal;
 use krb_client_exchanges::{ExchangeFault, HintRefusal, HintedClientRefusal, LoginRefusal};
 use krb_commands::{Stop, refused};
 use krb_constants::error_codes::{
-    KDC_ERR_C_PRINCIPAL_UNKNOWN, KDC_ERR_ETYPE_NOSUPP, KDC_ERR_WRONG_REALM,
+    KDC_ERR_BADOPTION, KDC_ERR_C_PRINCIPAL_UNKNOWN, KDC_ERR_ETYPE_NOSUPP, KDC_ERR_WRONG_REALM,
+    KRB_AP_ERR_TKT_EXPIRED,
 };
 use krb_crypto::CipherSuite;
 use krb_settings::suite_name;
@@ -16,6 +17,12 @@ const OTHER_SUITES: &str = "; -e SUITE asks for others, as -e des3-cbc-sha1-kd";
 
 /// What to look at where the realm is unknown.
 const UPPER_CASE: &str = "; hint: realms are mostly written in upper case";
+
+/// What to do where a ticket isn't renewable.
+const RENEWABLE: &str = "; -L SECONDS asks for a ticket that is renewable";
+
+/// What to do where a ticket or its renew-till is past.
+const ANEW: &str = "; log in anew";
 
 /// The stop of a login, or of a request for a ticket, that ended without one. `name`: the argument that names the user or the service.
 pub(crate) fn stop_of(
@@ -65,6 +72,8 @@ fn advice_for_code(login: &Login<'_>, code: u32) -> &'static str {
     match code {
         KDC_ERR_ETYPE_NOSUPP => OTHER_SUITES,
         KDC_ERR_C_PRINCIPAL_UNKNOWN | KDC_ERR_WRONG_REALM if has_lower_case(realm) => UPPER_CASE,
+        KDC_ERR_BADOPTION if login.settings.flags.is_renewal => RENEWABLE,
+        KRB_AP_ERR_TKT_EXPIRED if login.settings.flags.is_renewal => ANEW,
         _ => "",
     }
 }
