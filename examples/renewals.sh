@@ -130,12 +130,16 @@ logins() {
     try "kvno by the renewed ticket" yes "kvno = " mit kvno "host/$host"
     try "krb_login without options" yes "" login -p "$work/password" user@EXAMPLE.COM
     try "its flags" yes "" has krbtgt/EXAMPLE.COM IA
-    try "krb_login -R of a ticket that isn't renewable" no "KDC_ERR_BADOPTION (13)" login -R
+    try "krb_login -R of a ticket that isn't renewable" no "KDC_ERR_BADOPTION (13); -L SECONDS" login -R
+    try "its flags stay" yes "" has krbtgt/EXAMPLE.COM IA
     try "kinit -f -r 7d" yes "" typed "$password" mit kinit -f -r 7d user
     try "krb_login -R of that ticket" yes "" renews login -R
-    try "krb_login -R after the renew-till" no "KRB_AP_ERR_TKT_EXPIRED (32)" outlived login -R
+    try "krb_login -R after the renew-till" no "KRB_AP_ERR_TKT_EXPIRED (32); log in anew" outlived login -R
     try "krb_login -R with a password" no "expected no USER, MEANS, -f, -P or -L" login -R -p "$work/password"
-    try "krb_login -R without a cache" no "" login -R -c "$work/nothing"
+    try "krb_login -R without a cache" no "nothing can't be read" login -R -c "$work/nothing"
+    try "krb_login -R of a file that is no cache" no "password: the credential cache has version" login -R -c "$work/password"
+    printf '\005\004\000\000\000\000\000\001\000\000\000\001\000\000\000\013EXAMPLE.COM\000\000\000\004user' >"$work/empty"
+    try "krb_login -R of a cache without a ticket" no "expected a user with a ticket-granting ticket" login -R -c "$work/empty"
 }
 
 realm_rows() {

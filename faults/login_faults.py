@@ -168,6 +168,7 @@ def refusals(program):
     together = "-C CERTIFICATE, -K KEY and -A ANCHOR go together: expected all three"
     certified = lambda file: [*cache, "-C", file, "-K", file, "-A", file, *user]
     wanted = "expected a certificate in PEM or DER"
+    renewed = "expected no USER, MEANS, -f, -P or -L: they are those of the cache's ticket"
     rows = [
         ([], 2, f"{one_means}; and USER@REALM: see --help"),
         (["-x", "1", *user], 2, "-x: no such option: expected one of --help"),
@@ -206,6 +207,11 @@ def refusals(program):
         ([*cache, *password, "-r", "missing", *user], 2, "missing can't be read: "),
         ([*cache, *password, "-r", "/dev/null", *user], 2, "/dev/null: expected 96 random octets for each request"),
         (["-c", "missing/cache", *ARGUMENTS[2:]], 2, "missing/cache can't be written: "),
+        ([*cache, *password, "-L", "0", *user], 2, "-L: expected a whole number of seconds from 1 to 31536000"),
+        *(([*cache, "-R", *more], 2, f"-R: {renewed}") for more in (user, password, certified("words")[2:], ["-f"], ["-P"], ["-L", "60"])),
+        ([*cache, "-R"], 1, "cache: the field at offset "),
+        (["-R", "-c", "missing"], 2, "missing can't be read: "),
+        (["-R", "-c", "words"], 1, "words: the credential cache has version "),
     ]
     faults, texts = [], []
     for words, status, line in rows:
