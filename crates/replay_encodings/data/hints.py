@@ -3,7 +3,8 @@
 a client makes of each.
 
 A row's suites are those that the client lists. The word `usual` stands for the usual ones, and behind others it says that the user named none.
-A row of the kind `padata` or `service` has what a request ends with: its field req-body.
+A row of the kind `padata`, `service` or `renewal` has what a request ends with: its field req-body. Behind the kinds `request` and `padata`
+stand the options of the request, and its rtime.
 
 The requests are of an encoder of this file, which shares no code with the program that replays the rows. The keys are those that the
 KDCs hold, by kadmin.local's `ktadd -norandkey` and Heimdal's `kadmin ext_keytab`, and the salts are read here, too. It needs Debian's
@@ -22,7 +23,10 @@ import time
 
 SUITES = {16: "des3-cbc-sha1", 17: "aes128-cts-hmac-sha1-96", 18: "aes256-cts-hmac-sha1-96", 19: "aes128-cts-hmac-sha256-128", 20: "aes256-cts-hmac-sha384-192"}
 NAMES = {16: "des3", 17: "aes128", 18: "aes256", 19: "aes128 sha2", 20: "aes256 sha2"}
+# The bits of kdc-options (RFC 4120, section 5.4.1).
+BITS = {"forwardable": 1, "proxiable": 3, "renewable": 8, "renew": 30}
 REALM, PASSWORD, TILL, NONCE = "EXAMPLE.COM", "correct horse", "20370101000000Z", 0x10111213
+RTIME = "20370108000000Z"
 ALL = [18, 17, 20, 19, 16]
 
 
@@ -53,22 +57,28 @@ def principal(kind, components):
     return sequence(field(0, number(kind)), field(1, sequence(*(text(one) for one in components))))
 
 
-def body_of(realm, name, service, suites):
+def time_of(value):
+    return element(0x18, value.encode())
+
+
+def body_of(realm, name, service, suites, options=(), rtime=None):
     """The body of a request for a service, which an AS request's client is named in."""
+    bits = sum(1 << 31 - BITS[one] for one in options)
     return sequence(
-        field(0, element(3, bytes(5))),
+        field(0, element(3, bytes(1) + bits.to_bytes(4, "big"))),
         *([] if name is None else [field(1, principal(1, name))]),
         field(2, text(realm)),
         field(3, principal(2, service)),
-        field(5, element(0x18, TILL.encode())),
+        field(5, time_of(TILL)),
+        *([field(6, time_of(rtime))] if rtime else []),
         field(7, number(NONCE)),
         field(8, sequence(*(number(suite) for suite in suites))),
     )
 
 
-def request_of(realm, name, suites):
+def request_of(realm, name, suites, *asked):
     """An AS request without padata for a ticket of the realm's own service."""
-    return element(0x6A, sequence(field(1, number(5)), field(2, number(10)), field(4, body_of(realm, name, ["krbtgt", realm], suites))))
+    return element(0x6A, sequence(field(1, number(5)), field(2, number(10)), field(4, body_of(realm, name, ["krbtgt", realm], suites, *asked))))
 
 
 def parts_of(octets):
@@ -191,6 +201,7 @@ class Mit(Kdc):
     {REALM} = {{
         key_stash_file = {work}/stash
         master_key_type = aes256-cts-hmac-sha1-96
+        max_renewable_life = 7d
     }}
 [dbmodules]
     db_module_dir = {self.folder}/usr/lib/x86_64-linux-gnu/krb5/plugins/kdb
@@ -358,6 +369,7 @@ def record(rows, mit, heimdal, several):
         reply_rows(rows, kdc)
     changed_replies(rows, mit)
     choice_rows(rows, mit, errors, keys)
+    option_rows(rows, mit)
     rows.put("error as reply", "reply", ALL, ["user18"], errors[18], "refused: Unreadable")
     for suite in SUITES:
         empty = with_methods(errors[18], [(19, info_of([(suite, b"", None)]))])
@@ -406,6 +418,18 @@ def choice_rows(rows, mit, errors, keys):
         rows.put("request with padata", "padata", suites, ["user18"], b"", body.hex())
     for suites in ([18, 17, 20, 19], [18], [17, 18, 16]):
         rows.put("request for a service", "service", suites, name, own, field(4, body_of(REALM, None, name, suites)).hex())
+
+
+def option_rows(rows, mit):
+    """Requests with options, and renewals of tickets that have the flags of these options."""
+    own, name, service = ["user18"], ["server", "host.example.com"], ["krbtgt", REALM]
+    for options, rtime in ((["forwardable"], None), (["proxiable"], None), (["renewable"], RTIME), (list(BITS)[:3], RTIME)):
+        words, asked = " ".join([*options, rtime or ""]).strip(), (options, rtime)
+        rows.put(f"first request, {words}", f"request {words}", ALL, own, request_of(REALM, own, ALL, *asked), "")
+        rows.put(f"request with padata, {words}", f"padata {words}", [18], own, b"", field(4, body_of(REALM, own, service, [18], *asked)).hex())
+        reply = mit.ask(request_of(REALM, name, [18], *asked))
+        flags = sorted({*options, "renewable", "renew"})
+        rows.put(f"renewal, {words}", "renewal", [18, 17], name, reply, field(4, body_of(REALM, None, service, [18, 17], flags)).hex())
 
 
 def changed_replies(rows, mit):

@@ -7,10 +7,10 @@ ghost use Rattle.std.specs.Prelude.{◌≡◌, length};
 mod texts;
 
 use anyhow::{Context, bail};
-use krb_client::{AsAsked, AskRefusal, ByKey, Client, Credential, TicketRequest};
+use krb_client::{AsAsked, AskRefusal, ByKey, Client, Credential, TicketOptions, TicketRequest};
 use krb_client_exchanges::{
-    HintedClientRefusal, KeyHint, USUAL_SUITES, Wanted, client_by_hint, first_request, key_hint,
-    key_hint_of_reply, suite_of_reply, taken_of_suites,
+    HintedClientRefusal, KeyHint, USUAL_SUITES, Wanted, client_by_hint, first_request_with,
+    key_hint, key_hint_of_reply, suite_of_reply, taken_of_suites,
 };
 use krb_crypto::CipherSuite;
 use krb_time::Moment;
@@ -33,6 +33,8 @@ struct Hints;
 #[derive(Drop)]
 struct Hinted<'a> {
     kind: &'a str,
+    /// What an AS request asks of its ticket besides its end.
+    options: TicketOptions,
     /// The suites that the client lists.
     suites: Vec<CipherSuite>,
     /// Whether its user named them.
@@ -63,7 +65,7 @@ fn is_outcome(alloc: Global, row: &Hinted<'_>, expected: &str) -> anyhow::Result
     let text = match row.kind {
         "request" => return is_request(alloc, row),
         "padata" => return is_request_with_padata(alloc, row, expected),
-        "service" => return is_service_request(alloc, row, expected),
+        "service" | "renewal" => return is_further_request(alloc, row, expected),
         "error" => text_of_error(alloc, row),
         "reply" => text_of_reply(alloc, row),
         "suite" => text_of_suite(alloc, row),
@@ -74,11 +76,12 @@ fn is_outcome(alloc: Global, row: &Hinted<'_>, expected: &str) -> anyhow::Result
 
 /// Reads a row up to what is expected.
 fn hinted_of<'a>(alloc: Global, row: &mut Row<'a>) -> anyhow::Result<Hinted<'a>> {
-    let kind = row.word();
+    let (kind, options) = kind_of(row.word())?;
     let text = row.word();
     let suites = suites_of(alloc, text)?;
     Ok(Hinted {
         kind,
+        options,
         suites,
         are_chosen: !text.ends_with(USUAL),
         realm: row.word(),
@@ -86,6 +89,22 @@ fn hinted_of<'a>(alloc: Global, row: &mut Row<'a>) -> anyhow::Result<Hinted<'a>>
         password: row.octets(alloc),
         octets: row.octets(alloc),
     })
+}
+
+/// Reads a kind, and behind it the options of a request and its rtime.
+fn kind_of(text: &str) -> anyhow::Result<(&str, TicketOptions)> {
+    let mut options = TicketOptions::plain();
+    let mut words = text.split_whitespace();
+    let kind = words.next().context("no kind")?;
+    for word in words {
+        match word {
+            "forwardable" => options.forwardable = true,
+            "proxiable" => options.proxiable = true,
+            "renewable" => options.renewable = true,
+            _ => options.rtime = GeneralizedTime::from_text(word.as_bytes()),
+        }
+    }
+    Ok((kind, options))
 }
 
 /// Reads the numbers of suites, or the usual ones. The word `usual` behind numbers says that the user named none.
@@ -121,7 +140,7 @@ fn ask(alloc: Global, row: &Hinted<'_>, client: &Client) -> anyhow::Result<(Vec<
         moment: moment()?,
         words: &words,
     };
-    let asked = first_request(alloc, client, &row.suites, &request)?;
+    let asked = first_request_with(alloc, client, &row.suites, row.options, &request)?;
     Ok(asked)
 }
 
@@ -219,17 +238,21 @@ fn is_request_with_padata(alloc: Global, row: &Hinted<'_>, expected: &str) -> an
         moment: moment()?,
         words: &words,
     };
-    let made = client.as_request_of_suites(alloc, &means, &row.suites, &request);
+    let made = client.as_request_with(alloc, &means, &row.suites, row.options, &request);
     ends_with(alloc, made, expected)
 }
 
-/// Returns whether the client's request for a service ticket, by what a reply grants, ends with this body.
-fn is_service_request(alloc: Global, row: &Hinted<'_>, expected: &str) -> anyhow::Result<bool> {
+/// Returns whether the client's request for a service ticket, or to renew, by what a reply grants, ends with this body.
+fn is_further_request(alloc: Global, row: &Hinted<'_>, expected: &str) -> anyhow::Result<bool> {
     let hint = key_hint_of_reply(alloc, &row.suites, &row.octets)?;
     let (client, means) = client_of(alloc, row, &hint)?;
     let (_request, asked) = ask(alloc, row, &client)?;
     let granting = client.take_as_reply(alloc, &means, &asked, &row.octets)?;
-    is_request_by(alloc, row, &client, &granting, expected)
+    if row.kind == "renewal" {
+        is_renewal_by(alloc, row, &client, &granting, expected)
+    } else {
+        is_request_by(alloc, row, &client, &granting, expected)
+    }
 }
 
 fn is_request_by(
@@ -247,6 +270,26 @@ fn is_request_by(
         words: &words,
     };
     let made = client.tgs_request_of_suites(alloc, granting, &row.suites, &request);
+    ends_with(alloc, made, expected)
+}
+
+fn is_renewal_by(
+    alloc: Global,
+    row: &Hinted<'_>,
+    client: &Client,
+    granting: &Credential,
+    expected: &str,
+) -> anyhow::Result<bool> {
+    let service = krbtgt(alloc, row.realm)?;
+    let words = words();
+    let request = TicketRequest {
+        service: &service,
+        till: till()?,
+        moment: moment()?,
+        words: &words,
+    };
+    let options = TicketOptions::renewal(granting.flags());
+    let made = client.tgs_request_with(alloc, granting, &row.suites, options, &request);
     ends_with(alloc, made, expected)
 }
 
