@@ -13,13 +13,13 @@
 //! whatever a KDC answers, it gets two requests at most (law `few_requests`), and no credential has a session key of a suite that wasn't
 //! wanted (law `wanted_session_keys`). No answer brings a suite that wasn't listed (law `no_answer_weakens`), nor another salt where the
 //! user named no suites (law `default_salt_alone`). `first_request` writes the one encoding of an AS request without padata
-//! (`first_request_bytes`). AS requests ask for what the options of their [`Occasion`] say: without any they are the plain ones (law
-//! `plain_first`). `key_hint` and `key_hint_of_reply` return what the tables `error_hint` and `reply_hint` give: suite and salt of the
-//! first entry whose suite is a given one. For a reply that is the suite of its enc-part; without PA-ETYPE-INFO2 it gives this suite and no
-//! salt. `s2kparams` other than the suite's own are refused. The key of `client_by_hint` is that of the password and this salt, or of the
-//! default one where the KDC names none. What our realm writes of an account is read as its suite, where that is a given one, and as its
-//! salt, where that is a GeneralString (law `hint_of_method_data`). `cache_of` returns the cache whose default principal is the client, and
-//! whose credentials are exactly those that are given, in their order (`login_cache`).
+//! (`first_request_bytes`). AS requests ask for what the options of their [`Occasion`] say. Without an option the first one is that of
+//! `first_request` (law `plain_first`). `key_hint` and `key_hint_of_reply` return what the tables `error_hint` and `reply_hint` give: suite
+//! and salt of the first entry whose suite is a given one. For a reply that is the suite of its enc-part; without PA-ETYPE-INFO2 it gives
+//! this suite and no salt. `s2kparams` other than the suite's own are refused. The key of `client_by_hint` is that of the password and this
+//! salt, or of the default one where the KDC names none. What our realm writes of an account is read as its suite, where that is a given
+//! one, and as its salt, where that is a GeneralString (law `hint_of_method_data`). `cache_of` returns the cache whose default principal is
+//! the client, and whose credentials are exactly those that are given, in their order (`login_cache`).
 #![tactic(auto)]
 
 mod answer;
