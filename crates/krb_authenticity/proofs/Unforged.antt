@@ -26,17 +26,17 @@ use Rattle.krb_ap_requests.specs.Entry.{EntryRecord}
 use Rattle.krb_ap_requests.specs.Presents.{Choice, Presents, request_of}
 use Rattle.krb_kdc_exchanges.specs.Requests.{client_of}
 use Rattle.krb_kdc_exchanges.specs.ByTicket.{IsByTicket}
-use Rattle.krb_client.specs.AsRequest.{as_body_of_suites, as_request_of}
+use Rattle.krb_client.specs.AsRequest.{as_body_with, as_request_of}
 use Rattle.krb_client.specs.Authenticators.{IsApRequest, ap_request_of}
 use Rattle.krb_client.specs.Client.{CredentialRecord}
 use Rattle.krb_client.specs.Held.{principal_name}
 use Rattle.krb_client.specs.Messages.{ap_request_bytes, as_request_bytes, encrypted_bytes}
 use Rattle.krb_client.specs.Requests.{nonce_of}
 use Rattle.krb_tickets.specs.MethodData.{pa_data_of}
-use Rattle.krb_client.specs.TgsRequest.{further_request}
+use Rattle.krb_client.specs.TgsRequest.{further_request_with}
 use Rattle.krb_logins.proofs.Names.{component_texts, realm_text}
 use Rattle.krb_logins.proofs.WholePresented.{whole_request, whole_ticket}
-use Rattle.krb_logins.proofs.WholeRequests.{as_request_written, tgs_request_written, writes_encrypted}
+use Rattle.krb_logins.proofs.WholeRequests.{as_request_with_written, tgs_request_with_written, writes_encrypted}
 use Rattle.krb_authenticity.specs.Ciphertexts.{AreUnforged, CiphertextRecord, IsMade, IsUnforged, OpensAuthenticator, OpensTicket, OpensTimestamp, RealmOpens, ServiceOpens, authenticator_under, granting_under, ticket_under, timestamp_under}
 use Rattle.krb_authenticity.specs.Honest.{AreHonest, IsByGrant, IsFirstHonest, IsFurtherHonest, IsServiceHonest}
 use Rattle.krb_authenticity.specs.Parties.{ExchangeRecord, FirstRequest, FurtherRequest, SentRecord}
@@ -159,7 +159,7 @@ module _ (rows : PkinitRows) (before : List ExchangeRecord) (sent : SentRecord) 
   first = h.request
 
   abbrev body : KdcReqBody
-  body = as_body_of_suites first.client first.suites first.service first.till first.words
+  body = as_body_with first.client first.suites first.options first.service first.till first.words
 
   abbrev own_data : EncryptedData
   own_data = h.is_sent.shown.encrypted_timestamp
@@ -169,7 +169,7 @@ module _ (rows : PkinitRows) (before : List ExchangeRecord) (sent : SentRecord) 
 
   read_first : IsAsReq exchange.request own_first
   read_first =
-      as_request_written (pa_data_of 2 (encrypted_bytes own_data)) first.client first.suites first.service first.till first.words exchange.request (realm_text first.client.realm h.named.realm)
+      as_request_with_written (pa_data_of 2 (encrypted_bytes own_data)) first.client first.suites first.options first.service first.till first.words exchange.request (realm_text first.client.realm h.named.realm)
       (component_texts first.client.components h.named.name) (component_texts first.service h.service_named)
       (h.bytes ∙ h.is_sent.encoding ∙ ap (λ padata. as_request_bytes (as_request_of padata body)) h.is_sent.shown.made)
 
@@ -208,14 +208,14 @@ module _ (rows : PkinitRows) (before : List ExchangeRecord) (sent : SentRecord) 
   further_asks = h.is_sent.asks.authenticates.presents
 
   abbrev own_further : KdcReq
-  own_further = further_request further.client further.suites further.service further.till (nonce_of further.words) shown_bytes
+  own_further = further_request_with further.client further.suites further.options further.service further.till (nonce_of further.words) shown_bytes
 
   abbrev own_shown : ApReqInner
   own_shown = own_request rows before h.granting.key further.credential h.by 7 false h.is_sent.asks.authenticates.authenticator further_confounder shown_bytes further_asks
 
   read_further : IsTgsReq exchange.request own_further
   read_further =
-      tgs_request_written further.client further.suites further.service further.till (nonce_of further.words) shown_bytes exchange.request (realm_text further.client.realm h.is_sent.named.realm)
+      tgs_request_with_written further.client further.suites further.options further.service further.till (nonce_of further.words) shown_bytes exchange.request (realm_text further.client.realm h.is_sent.named.realm)
       (component_texts further.service h.service_named) (h.bytes ∙ h.is_sent.asks.encoding)
 
   -- the AP-REQ that it carries, and the account of the ticket-granting service

@@ -23,7 +23,7 @@ use Rattle.krb_kdc_exchanges.specs.Call.{pkinit_call, skew_of}
 use Rattle.krb_kdc_exchanges.specs.Requests.{body_of}
 use Rattle.krb_messages.specs.Padata.{first_of, padata_in}
 use Rattle.krb_client.specs.Requests.{nonce_of}
-use Rattle.krb_client.specs.TgsRequest.{checksum_over, further_body}
+use Rattle.krb_client.specs.TgsRequest.{checksum_over, further_body_with}
 use Rattle.krb_messages.specs.Bodies.{body_bytes}
 use Rattle.krb_kdc_exchanges.specs.Grants.{Principals}
 use Rattle.krb_service.specs.Admission.{AdmissionRecord, checksum_of, seq_number_of, subkey_of}
@@ -118,11 +118,11 @@ pub record IsAuthentic (rows : PkinitRows) (keys : List Bytes) (exchanges : List
   pub client : WasAuthenticated rows keys exchanges sent admission.realm admission.client admission.authtime
   pub asked : IsAmong admission.session.key_value.0 keys → IsAskedFirst sent admitted admission after
 
--- the body of a request for a service ticket
+-- the body of a request for a further ticket
 abbrev pub body_sent : FurtherRequest → KdcReqBody
-body_sent request = further_body request.client request.suites request.service request.till (nonce_of request.words)
+body_sent request = further_body_with request.client request.suites request.options request.service request.till (nonce_of request.words)
 
--- a client asked for the service ticket that an exchange grants, at a moment near now; the body that the realm read has the checksum of the
+-- a client asked for the further ticket that an exchange grants, at a moment near now; the body that the realm read has the checksum of the
 -- body that the client wrote
 pub record IsFurtherAsked (sent : SentRecord) (exchange : ExchangeRecord) (grant : GrantRecord) (asked : KdcReq) : Type 0 where
   pub request : FurtherRequest

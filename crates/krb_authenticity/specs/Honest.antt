@@ -42,7 +42,7 @@ pub record IsFirstHonest (sent : SentRecord) (exchange : ExchangeRecord) : Type 
   pub suite : account.suite ≡ request.key.suite
   pub key : account.key ≡ request.key.bytes
 
--- a client asked for a service ticket, by one that it was granted before
+-- a client asked for a further ticket, by one that it was granted before
 pub record IsFurtherHonest (rows : PkinitRows) (before : List ExchangeRecord) (sent : SentRecord) (exchange : ExchangeRecord) : Type 0 where
   pub request : FurtherRequest
   pub among : IsAmong request sent.further

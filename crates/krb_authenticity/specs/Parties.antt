@@ -23,11 +23,12 @@ use Rattle.krb_service.specs.Admission.{AdmissionRecord, admission_of}
 use Rattle.krb_service.specs.ApReply.{IsReplyOf, ap_rep_part_with}
 use Rattle.krb_service.specs.declared.reply.ReplyFields.{ReplyFields}
 use Rattle.krb_kdc_exchanges.specs.Call.{CallRecord}
-use Rattle.krb_client.specs.AsRequest.{AsksAsOfSuites}
+use Rattle.krb_client.specs.AsRequest.{AsksAsWith}
 use Rattle.krb_client.specs.Authenticators.{IsApRequest}
 use Rattle.krb_client.specs.Client.{ClientRecord, CredentialRecord}
 use Rattle.krb_client.specs.EncryptedTimestamps.{by_key}
-use Rattle.krb_client.specs.TgsRequest.{AsksTgsOfSuites}
+use Rattle.krb_client.specs.TgsRequest.{AsksTgsWith}
+use Rattle.krb_client.specs.declared.options.TicketOptions.{TicketOptions}
 
 -- an exchange with the realm: the call, the request's bytes and the reply's
 pub record ExchangeRecord : Type 0 where
@@ -35,10 +36,11 @@ pub record ExchangeRecord : Type 0 where
   pub request : Bytes
   pub reply : Bytes
 
--- a client's request for a first ticket, by a key that it shares with the realm; it lists these suites
+-- a client's request for a first ticket, by a key that it shares with the realm; it lists these suites, and asks with these options
 pub record FirstRequest : Type 0 where
   pub client : ClientRecord
   pub suites : List CipherSuite
+  pub options : TicketOptions
   pub key : KeyRecord
   pub service : List Bytes
   pub till : GeneralizedTime
@@ -46,10 +48,12 @@ pub record FirstRequest : Type 0 where
   pub words : Random
   pub bytes : Bytes
 
--- a client's request for a service ticket, by a ticket that it has; it lists these suites
+-- a client's request for a further ticket, by one that it has; it lists these suites, and asks with these options: for a service ticket, or to
+-- renew or forward the one that it has
 pub record FurtherRequest : Type 0 where
   pub client : ClientRecord
   pub suites : List CipherSuite
+  pub options : TicketOptions
   pub credential : CredentialRecord
   pub service : List Bytes
   pub till : GeneralizedTime
@@ -90,11 +94,11 @@ pub record IsClient (client : ClientRecord) : Type 0 where
 
 -- what a client sent is its request
 abbrev pub IsFirstSent : FirstRequest → Type 0
-IsFirstSent request = AsksAsOfSuites request.client request.suites (by_key request.key.suite request.key.bytes) request.service request.till request.moment request.words request.bytes
+IsFirstSent request = AsksAsWith request.client request.suites request.options (by_key request.key.suite request.key.bytes) request.service request.till request.moment request.words request.bytes
 
 pub record IsFurtherSent (request : FurtherRequest) : Type 0 where
   pub named : IsClient request.client
-  pub asks : AsksTgsOfSuites request.client request.suites request.credential request.service request.till request.moment request.words request.bytes
+  pub asks : AsksTgsWith request.client request.suites request.options request.credential request.service request.till request.moment request.words request.bytes
 
 -- the authenticator has the client's realm, name and moment, and has an encoding
 pub record IsOfClient (client : ClientRecord) (moment : Micros) (authenticator : AuthenticatorInner) : Type 0 where

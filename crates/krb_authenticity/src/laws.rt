@@ -80,7 +80,7 @@ pub fn client_was_named<P: Pkinit>(pkinit: &P)
         → IsAskedByName sent was.exchange realm client }
 {}
 
-/// The client itself asked for each service ticket that is granted by a session key of these keys.
+/// The client itself asked for each further ticket that is granted by a session key of these keys, also for each renewed or forwarded one.
 pub fn further_was_asked<P: Pkinit>(pkinit: &P)
     ensures { (keys : List (List ℕ)) (before : List ExchangeRecord) (sent : SentRecord) (exchange : ExchangeRecord) → IsUnforged (P.rows pkinit.now) keys before sent (RealmOpens exchange)
         → (grant : GrantRecord) (under : ReplyKeyRecord) (service : AccountRecord) (is : IsFurther exchange grant under service) → IsAmong is.part.key.0.key_value.0 keys
