@@ -33,6 +33,7 @@ mod AdmittedBy
 mod ByTicket
 mod Chained
 mod RenewedTickets
+mod ByFirst
 mod OneKey
 pub mod EndsWithOneKey
 mod Uses

@@ -53,7 +53,7 @@ module _ (client : ClientRecord) (means : MeansRecord) (realm : RealmRecord) (ro
     starts : start_of login.realm_as ≡ seconds_of granting.starttime
     starts = sym (ap seconds_of held.starttime ∙ first_is.starts)
 
-    ends : first_end realm login ≡ seconds_of granting.endtime
+    pub ends : first_end realm login ≡ seconds_of granting.endtime
     ends = sym (ap seconds_of held.endtime ∙ first_is.ends)
 
     pub valid : IsTicketInTime (seconds_of granting.starttime) (seconds_of granting.endtime) (realm_skew realm) login.realm_tgs

@@ -64,7 +64,7 @@ module _ (client : ClientRecord) (means : MeansRecord) (realm : RealmRecord) (ro
   as_unasked refusal x =
       first_memory client plain_options means (krbtgt_of client.realm) login.till login.client_as login.words_as refusal (granting_name client.realm met.parties.realm) met.authenticated.asks x.0
 
-  as_ends : (result : Result CredentialRecord LoginRefusal) → AsExchange client means realm rows login result → Ends HoldsFirst result
+  pub as_ends : (result : Result CredentialRecord LoginRefusal) → AsExchange client means realm rows login result → Ends HoldsFirst result
   unfolding AsExchange
   as_ends = exchange_ends AsAskedRecord as_call rows as_asks (takes_as_reply client means) HoldsFirst as_unasked as_taken
 

@@ -137,6 +137,13 @@ pub fn one_key_by_ticket<P: Pkinit>(pkinit: &P)
         → TicketLogin client realm (P.rows pkinit.now) service login granting before result after → IsOneKey client result }
 {}
 
+/// An honest login is one by its first ticket: the client holds what the AS exchange makes, and the rest is an honest login by that ticket.
+pub fn login_is_by_ticket<M: Means, P: Pkinit>(means: &M, pkinit: &P)
+    ensures { (client : ClientRecord) (realm : RealmRecord) (service : ServiceRecord) (before : RememberedRecord) (login : LoginRecord) (granting : CredentialRecord)
+        → IsMet client (M.means means.now) realm (P.rows pkinit.now) service before login → AsExchange client (M.means means.now) realm (P.rows pkinit.now) login (Ok granting)
+        → AreOfOneRealm client realm × HoldsGranting client realm granting × IsTicketLoginHonest client realm service before login granting }
+{}
+
 /// Every honest login over renewed and forwarded tickets ends so: an AS exchange with options, any number of renewals and forwardings, and
 /// the login by the last ticket.
 pub fn one_key_over_chain<M: Means, P: Pkinit>(means: &M, pkinit: &P)

@@ -5,11 +5,11 @@
 //! `client_admitted`). The login ends with one session key on both sides, or with `Memory` (laws `one_key`, `one_key_by_password`). Each
 //! login has one outcome (law `one_login`). The steps of an honest login may lie hours apart, while its tickets last: a login whose steps
 //! all lie within one clock skew is a special case (law `near_is_timely`). One ticket may be used several times (laws `several_services`,
-//! `several_uses`). A ticket may be asked for with options and be renewed (laws `first_held`, `next_held`). A login by any ticket-granting
-//! ticket that the client holds ends with one session key, and so does one over renewed tickets (laws `one_key_by_ticket`,
-//! `one_key_over_renewals`). `is_honest` and `is_honest_by_key` answer true of exactly the honest logins. [`ap_exchange`] ends as
-//! `ApExchange` says: with the client's session key and the service's admission, or with the refusal of the step that refuses. What the
-//! service remembers after it is what it then has seen.
+//! `several_uses`). A ticket may be asked for with options, and be renewed and forwarded (laws `first_held`, `next_held`,
+//! `renewed_as_seen`). A login by any ticket-granting ticket that the client holds ends with one session key, and so does one over renewed
+//! and forwarded tickets (laws `one_key_by_ticket`, `one_key_over_chain`). `is_honest` and `is_honest_by_key` answer true of exactly the
+//! honest logins. [`ap_exchange`] ends as `ApExchange` says: with the client's session key and the service's admission, or with the refusal
+//! of the step that refuses. What the service remembers after it is what it then has seen.
 #![tactic(auto)]
 
 mod granting;
