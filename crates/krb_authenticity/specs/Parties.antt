@@ -48,8 +48,8 @@ pub record FirstRequest : Type 0 where
   pub words : Random
   pub bytes : Bytes
 
--- a client's request for a further ticket, by one that it has; it lists these suites, and asks with these options: for a service ticket, or to
--- renew or forward the one that it has
+-- a client's request for a further ticket, by one that it has; it lists these suites, and asks with these options. It is for a service
+-- ticket, or to renew or forward the one that it has
 pub record FurtherRequest : Type 0 where
   pub client : ClientRecord
   pub suites : List CipherSuite

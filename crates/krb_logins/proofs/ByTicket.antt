@@ -1,5 +1,5 @@
--- By a ticket-granting ticket that it holds a client is granted the next ticket and takes it, and a login by it leaves client and service with
--- one key.
+-- By a ticket-granting ticket that it holds a client is granted the next ticket and takes it. A login by it leaves client and service
+-- with one key.
 use Rattle.std.proofs.Common.{◌≡◌, true, List, Option, None, Some, Result, Ok, Err, inl, inr, refl, sym, ap, subst, ◌∙◌}
 use Rattle.asn1_leaves.specs.CharSets.{is_general_string}
 use Rattle.asn1_leaves.specs.GeneralizedTime.{seconds_of}

@@ -1,5 +1,5 @@
--- By a ticket-granting ticket that the client holds, the realm grants the ticket that an honest client asks for: each row of the TGS table is
--- passed.
+-- By a ticket-granting ticket that the client holds, the realm grants the ticket that an honest client asks for. Each row of the TGS table
+-- is passed.
 use Rattle.std.proofs.Common.{◌≡◌, ◌<◌, ℕ, ◌-◌, ◌/◌, ◌%◌, true, false, not, ◌&&◌, List, [], ◌∷◌, Option, None, Some, Result, Ok, Err, inl, refl, sym, ap, subst, ◌∙◌, get_or, arith}
 use Rattle.std.proofs.lemmas.Bool.{and_from, eq-eqb, eqb-true, lt-leb}
 use Rattle.std.specs.Option.{is_some, option_map, option_map_or}

@@ -1,5 +1,5 @@
--- What a client presents by a ticket for the service that it holds is admissible, whatever its authenticator has beside the client's name and
--- time.
+-- What a client presents by a ticket for the service that it holds is admissible, whatever its authenticator has beside the client's name
+-- and time.
 use Rattle.std.proofs.Common.{◌≡◌, ◌/◌, ◌%◌, Bool, true, false, None, Some, refl, sym, subst}
 use Rattle.std.proofs.lemmas.Bool.{and_from}
 use Rattle.asn1_leaves.specs.CharSets.{is_general_string}

@@ -50,8 +50,8 @@ pub record LoginRecord : Type 0 where
   pub realm_words_tgs : Random
   pub service_words : Random
 
--- a TGS exchange: what the client asks for, with which options, the moments of client and realm, each by its own clock, and the random bytes
--- of both
+-- a TGS exchange: what the client asks for and with which options, the moments of client and realm, and the random bytes of both. Each
+-- moment is by the clock of who acts
 pub record TgsRecord : Type 0 where
   pub options : TicketOptions
   pub service : List Bytes

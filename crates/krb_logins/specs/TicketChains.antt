@@ -1,4 +1,5 @@
--- Logins by a ticket-granting ticket that the client holds, and logins over renewed and forwarded tickets (RFC 4120, sections 2.3, 2.6, 3.3).
+-- Logins by a ticket-granting ticket that the client holds, and logins over renewed and forwarded tickets (RFC 4120, sections 2.3, 2.6 and
+-- 3.3).
 use Rattle.std.specs.Prelude.{◌≡◌, ◌⊎◌, List, [], ◌∷◌, Result, Ok, Err}
 use Rattle.krb_messages.specs.TicketGranting.{krbtgt_of}
 use Rattle.krb_kdc_exchanges.specs.Rows.{PkinitRows}

@@ -53,8 +53,8 @@ ticket_for client realm service words other = record other {
   service = principal_name NT_SRV_INST service;
 }
 
--- The client holds a ticket of the realm for the service. Its part is encrypted under the key of the service's account, and has the client's
--- name and the session key that the client holds.
+-- The client holds a ticket of the realm for the service. Its part is encrypted under the key of the service's account, and has the
+-- client's name and the session key that the client holds.
 pub record Holds (client : ClientRecord) (realm : RealmRecord) (service : List Bytes) (credential : CredentialRecord) : Type 0 where
   pub account : AccountRecord
   pub found : realm.look service ≡ Some account
@@ -97,8 +97,8 @@ pub record IsForwardable (client : ClientRecord) (realm : RealmRecord) (exchange
   pub service : exchange.service ≡ krbtgt_of client.realm
   pub flag : bit_of granting.flags FORWARDABLE ≡ true
 
--- An honest TGS exchange: the realm has an account of the service, the client's time is near the realm's, and the presented ticket is valid
--- now and allows what is asked for. The next ticket ends after its start; of a renewed one this follows.
+-- An honest TGS exchange: the realm has an account of the service, and the client's time is near the realm's. The presented ticket is valid
+-- now, and allows what is asked for. The next ticket ends after its start; of a renewed one this follows.
 pub record IsTgsHonest (client : ClientRecord) (realm : RealmRecord) (exchange : TgsRecord) (granting : CredentialRecord) : Type 0 where
   pub enough : AreEnoughForReply exchange.realm_words
   pub named : AreComponents exchange.service
@@ -110,7 +110,7 @@ pub record IsTgsHonest (client : ClientRecord) (realm : RealmRecord) (exchange :
   pub renews : exchange.options.renews ≡ true → IsRenewable client realm exchange granting
   pub forwards : exchange.options.forwards ≡ true → IsForwardable client realm exchange granting
 
--- An honest AP exchange: client, realm and service are of one realm, which knows the service, the client's time is near the service's, and the
+-- An honest AP exchange: client, realm and service are of one realm, which knows the service. The client's time is near the service's. The
 -- service admitted no authenticator of this client and time before.
 pub record IsApHonest (asking : ClientRecord) (realm : RealmRecord) (asked_for : ServiceRecord) (before : RememberedRecord) (login : LoginRecord) : Type 0 where
   pub named : AreNamed asking realm asked_for login
@@ -124,8 +124,8 @@ pub record IsApHonest (asking : ClientRecord) (realm : RealmRecord) (asked_for :
 abbrev pub as_body_asked : ClientRecord → TicketOptions → LoginRecord → KdcReqBody
 as_body_asked client options login = as_body_with client (client.suite ∷ []) options (krbtgt_of client.realm) login.till login.words_as
 
--- An honest AS exchange: the realm has its ticket-granting service and authenticates the client, the first ticket ends after its start, and
--- it is asked for as no renewed or forwarded one.
+-- An honest AS exchange: the realm has its ticket-granting service, and authenticates the client. The first ticket ends after its start, and
+-- is asked for as no renewed or forwarded one.
 pub record IsAsHonest (client : ClientRecord) (options : TicketOptions) (means : MeansRecord) (realm : RealmRecord) (rows : PkinitRows) (account : AccountRecord) (login : LoginRecord) : Type 0 where
   pub enough : AreEnoughForReply login.realm_words_as
   pub granting : IsGranting realm
@@ -201,8 +201,8 @@ pub record HoldsNext (client : ClientRecord) (realm : RealmRecord) (exchange : T
   pub holds_it : Holds client realm exchange.service credential
   pub next : IsNext client realm exchange (ticket_for client realm (krbtgt_of client.realm) holds.words holds.grant) holds_it.grant
 
--- What the client sees of a renewed ticket: authtime and renew-till are those of the presented one, it starts now, lasts as long as that one,
--- but no longer than to its renew-till, and can be renewed again.
+-- What the client sees of a renewed ticket: authtime and renew-till are those of the presented one. It starts now, lasts as long as that
+-- one, but no longer than to its renew-till, and can be renewed again.
 pub record IsRenewed (exchange : TgsRecord) (granting credential : CredentialRecord) : Type 0 where
   pub authtime : credential.authtime ≡ granting.authtime
   pub starts : seconds_of credential.starttime ≡ start_of exchange.realm_at

@@ -98,7 +98,7 @@ pub fn several_uses<M: Means, P: Pkinit>(means: &M, pkinit: &P)
         → All (λ used. IsOneKey client used.result) uses }
 {}
 
-/// By the key of its account a client is authenticated in each request whose time is near the realm's, whatever the request's body asks for.
+/// By the key of its account a client is authenticated in each request whose time is near the realm's, whatever its body asks for.
 pub fn authenticated_by_key<P: Pkinit>(pkinit: &P)
     ensures { (client : ClientRecord) (key : List ℕ) (realm : RealmRecord) (account : AccountRecord) (login : LoginRecord) (body : KdcReqBody)
         → account.suite ≡ client.suite → account.key ≡ key → is_far (realm_skew realm) login.realm_as login.client_as ≡ false
@@ -128,8 +128,8 @@ pub fn renewed_as_seen()
         → IsRenewed exchange granting credential }
 {}
 
-/// Every honest login by a ticket-granting ticket that the client holds, however it came by it, ends with one session key on both sides,
-/// under the client's name, or memory runs out.
+/// Every honest login by a ticket-granting ticket that the client holds ends with one session key on both sides, under the client's name.
+/// Or memory runs out. It doesn't matter how the client came by the ticket.
 pub fn one_key_by_ticket<P: Pkinit>(pkinit: &P)
     ensures { (client : ClientRecord) (realm : RealmRecord) (service : ServiceRecord) (before : RememberedRecord) (login : LoginRecord) (granting : CredentialRecord)
         (result : Result Login LoginRefusal) (after : RememberedRecord)
@@ -144,8 +144,8 @@ pub fn login_is_by_ticket<M: Means, P: Pkinit>(means: &M, pkinit: &P)
         → AreOfOneRealm client realm × HoldsGranting client realm granting × IsTicketLoginHonest client realm service before login granting }
 {}
 
-/// Every honest login over renewed and forwarded tickets ends so: an AS exchange with options, any number of renewals and forwardings, and
-/// the login by the last ticket.
+/// Every honest login over renewed and forwarded tickets ends so. It is an AS exchange with options, any number of renewals and
+/// forwardings, and the login by the last ticket.
 pub fn one_key_over_chain<M: Means, P: Pkinit>(means: &M, pkinit: &P)
     ensures { (client : ClientRecord) (options : TicketOptions) (realm : RealmRecord) (service : ServiceRecord) (login : LoginRecord) (exchanges : List TgsRecord) (before : RememberedRecord)
         (result : Result Login LoginRefusal) (after : RememberedRecord)
