@@ -1,7 +1,9 @@
 -- A context has what the client chose.
 use Rattle.std.proofs.Common.{◌≡◌, ℕ, Bool, true, false, List, Result, Ok, Err, refl, sym, ap, subst, ◌∙◌, inl, inr, if◌then◌else◌, arith}
 use Rattle.std.specs.Prelude.{◌≤◌, ◌+◌, max, is_some, Option, None, Some, MatchBool, MatchOption}
-use Rattle.krb_service.specs.Admission.{AdmissionRecord, TellsOf}
+use Rattle.krb_messages.specs.declared.data_types.checksum.Checksum.{Checksum}
+use Rattle.krb_messages.specs.declared.data_types.encryption_key.EncryptionKey.{EncryptionKey}
+use Rattle.krb_service.specs.Admission.{AdmissionRecord, TellsOf, checksum_of}
 use Rattle.krb_service.specs.Admits.{Admits}
 use Rattle.krb_service.specs.ChosenEntry.{IsPresentedTo}
 use Rattle.krb_ap_requests.specs.Presents.{Choice}
@@ -15,14 +17,17 @@ use Rattle.gss_contexts.specs.Judging.{TakesMic}
 use Rattle.gss_contexts.specs.declared.side.Side.TheVariants.{Acceptor}
 use Rattle.gss_contexts.specs.declared.terms.ContextTerms.{ContextTerms}
 use Rattle.gss_acceptor.proofs.Results.{given, same_ok}
-use Rattle.gss_acceptor.specs.Accepting.{AcceptorRecord, AdmitRequest, AskFor, Handles, IsAnsweredAs, Takes, VerifyMic, carried, context_under, established_of, held, judged, negotiated, opened_by, then_judged}
+use Rattle.gss_acceptor.specs.Accepting.{AcceptorRecord, AdmitRequest, AskFor, Handles, IsAnsweredAs, IsEstablishedAs, Takes, VerifyMic, carried, context_under, held, judged, negotiated, opened_by, then_judged}
 use Rattle.gss_acceptor.specs.Checksum.{bound_by, initial_in, no_bindings}
 use Rattle.gss_acceptor.specs.Chosen.{IsChosen, IsChosenAfter, IsKeyOf}
 use Rattle.gss_acceptor.specs.Concluding.{Demands, ExchangesMics, IsConcludedWithout, IsGiven, IsMicAnswered, IsVerified, awaiting, completed}
 use Rattle.gss_acceptor.specs.Contexts.{context_in, context_key, end_key, end_terms, fields_of, first_number, own_key}
+use Rattle.gss_acceptor.specs.Delegation.{delegation}
 use Rattle.gss_acceptor.specs.Established.{EstablishedRecord}
 use Rattle.gss_acceptor.specs.declared.accepted.Accepted.{Accepted}
 use Rattle.gss_acceptor.specs.declared.accepted.Accepted.TheVariants.{Established}
+use Rattle.gss_acceptor.specs.declared.checksum.ContextFlags.{ContextFlags}
+use Rattle.gss_acceptor.specs.declared.delegation.Delegated.{Delegated}
 use Rattle.gss_acceptor.specs.declared.exchange.Exchange.{Exchange}
 use Rattle.gss_acceptor.specs.declared.exchange.Terms.{Terms}
 use Rattle.gss_acceptor.specs.declared.exchange.Unverified.{Unverified}
@@ -95,10 +100,18 @@ key_by : (own : Bool) (choice : Choice) (words : List ℕ) (admission : Admissio
 key_by false choice words admission key tells e = sym (λ i. context_key (tells.subkey i) (tells.session i)) ∙ e
 key_by true choice words admission key tells e = (words, sym (λ i. own_key (tells.session i) words) ∙ e)
 
+-- what is delegated is the choice's
+delegated_by : (choice : Choice) (admission : AdmissionRecord) (flags : ContextFlags) (delegated : Option Delegated) → TellsOf choice admission
+    → (delegation flags admission.session admission.checksum).gives (Ok delegated)
+    → (delegation flags choice.part.key.0 (checksum_of choice.authenticator)).gives (Ok delegated)
+delegated_by choice admission flags delegated tells x =
+    subst (λ (session : EncryptionKey). (delegation flags session (checksum_of choice.authenticator)).gives (Ok delegated)) tells.session
+    (subst (λ (checksum : Option Checksum). (delegation flags admission.session checksum).gives (Ok delegated)) tells.checksum x)
+
 -- it is the choice's
 chosen : (choice : Choice) (words : List ℕ) (admission : AdmissionRecord) (made : Judged) (established : EstablishedRecord) → TellsOf choice admission
-    → IsJudgedBy words admission made → established ≡ established_of admission made → IsChosen choice established
-chosen choice words admission made established tells by is = record {
+    → IsJudgedBy words admission made → IsEstablishedAs admission made (Ok established) → IsChosen choice established
+chosen choice words admission made established tells by (delegated, delegates, is) = record {
   realm = ap (λ (e : EstablishedRecord). e.realm) is ∙ tells.realm;
   client = ap (λ (e : EstablishedRecord). e.client) is ∙ tells.client;
   authtime = ap (λ (e : EstablishedRecord). e.authtime) is ∙ tells.authtime;
@@ -107,6 +120,8 @@ chosen choice words admission made established tells by is = record {
   ticket_flags = ap (λ (e : EstablishedRecord). e.ticket_flags) is ∙ tells.flags;
   authorization_data = ap (λ (e : EstablishedRecord). e.authorization_data) is ∙ tells.authorization_data;
   initial = ap initial_in (sym tells.checksum) ∙ by.initial ∙ ap (λ (e : EstablishedRecord). Ok (record { bindings = e.bindings; flags = e.flags })) (sym is);
+  delegated = subst (λ (e : EstablishedRecord). (delegation e.flags choice.part.key.0 (checksum_of choice.authenticator)).gives (Ok e.delegated)) (sym is)
+      (delegated_by choice admission made.initial.flags delegated tells delegates);
   first = established.context.taking;
   number = ap first_number (sym tells.seq_number) ∙ by.number ∙ ap (λ (e : EstablishedRecord). Ok e.context.taking) (sym is);
   from_first = omega arith;
@@ -148,6 +163,7 @@ kept choice established after reply is follows = record {
   ticket_flags = is.ticket_flags;
   authorization_data = is.authorization_data;
   initial = is.initial;
+  delegated = is.delegated;
   first = is.first;
   number = is.number;
   from_first = omega (arith, is.from_first, follows.taking);

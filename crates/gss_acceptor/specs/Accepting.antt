@@ -14,6 +14,7 @@ use Rattle.gss_acceptor.specs.Answers.{ap_rep_in}
 use Rattle.gss_acceptor.specs.Checksum.{bound_by, initial_in}
 use Rattle.gss_acceptor.specs.Concluding.{IsContextAnswered, IsGiven, IsVerified, asking}
 use Rattle.gss_acceptor.specs.Contexts.{context_in, end_key, end_terms, fields_of, first_number}
+use Rattle.gss_acceptor.specs.Delegation.{delegation}
 use Rattle.gss_acceptor.specs.Established.{EstablishedRecord}
 use Rattle.gss_acceptor.specs.Negotiation.{offered}
 use Rattle.gss_acceptor.specs.Responses.{due_mic, responded}
@@ -22,6 +23,7 @@ use Rattle.gss_acceptor.specs.declared.accepted.Accepted.{Accepted}
 use Rattle.gss_acceptor.specs.declared.accepted.Negotiation.{Negotiation}
 use Rattle.gss_acceptor.specs.declared.accepted.Stage.{Stage}
 use Rattle.gss_acceptor.specs.declared.accepted.Stage.TheVariants.{Token, Mic}
+use Rattle.gss_acceptor.specs.declared.delegation.Delegated.{Delegated}
 use Rattle.gss_acceptor.specs.declared.exchange.Exchange.{Exchange}
 use Rattle.gss_acceptor.specs.declared.exchange.Terms.{Terms}
 use Rattle.gss_acceptor.specs.declared.exchange.Tokens.{Tokens}
@@ -116,8 +118,8 @@ judged terms skew words admission =
     Ok (record { initial = initial; context = context })))))
 
 -- the context of an admission that was judged so
-abbrev pub established_of : AdmissionRecord → Judged → EstablishedRecord
-established_of admission made = record {
+abbrev pub established_of : AdmissionRecord → Judged → Option Delegated → EstablishedRecord
+established_of admission made delegated = record {
   realm = admission.realm;
   client = admission.client;
   authtime = admission.authtime;
@@ -127,17 +129,29 @@ established_of admission made = record {
   authorization_data = admission.authorization_data;
   bindings = made.initial.bindings;
   flags = made.initial.flags;
+  delegated = delegated;
   context = made.context;
   reply = ap_rep_in admission.reply;
 }
 
--- the context of an admission is established as it is judged; or it is refused as it is judged, or because memory ran out
+-- what the client of an admission that was judged so delegates
+abbrev pub delegation_to : AdmissionRecord → Judged → Table (Result (Option Delegated) AcceptRefusal)
+delegation_to admission made = delegation made.initial.flags admission.session admission.checksum
+
+-- the context has what is delegated; or it is refused for its delegation, or because memory ran out
+abbrev pub IsEstablishedAs : AdmissionRecord → Judged → Result EstablishedRecord AcceptRefusal → Type 0
+IsEstablishedAs admission made (Ok established) =
+    (delegated : Option Delegated) × (delegation_to admission made).gives (Ok delegated) × (established ≡ established_of admission made delegated)
+IsEstablishedAs admission made (Err refusal) = (refusal ≡ Memory) ⊎ (delegation_to admission made).gives (Err refusal)
+
+-- the context of an admission is established as it is judged; or it is refused as it is judged, or then for its delegation, or because
+-- memory ran out
 abbrev pub IsEstablished : AcceptorTerms → Micros → Random → AdmissionRecord → Result EstablishedRecord AcceptRefusal → Type 0
 IsEstablished terms skew words admission (Ok established) =
-    (made : Judged) × (judged terms skew words admission ≡ Ok made) × (established ≡ established_of admission made)
+    (made : Judged) × (judged terms skew words admission ≡ Ok made) × IsEstablishedAs admission made (Ok established)
 IsEstablished terms skew words admission (Err refusal) =
     (judged terms skew words admission ≡ Err refusal)
-    ⊎ ((refusal ≡ Memory) × ((made : Judged) × (judged terms skew words admission ≡ Ok made)))
+    ⊎ ((made : Judged) × (judged terms skew words admission ≡ Ok made) × IsEstablishedAs admission made (Err refusal))
 
 -- Of an AP-REQ that the service admits the context is established, or refused. What is refused after the admission is remembered: the
 -- same token is then a replay (RFC 4120, section 3.2.3). Test: `Refused after the admission.`.

@@ -12,7 +12,7 @@ use Rattle.gss_acceptor.specs.declared.refusal.AcceptRefusal.{AcceptRefusal}
 use Rattle.gss_acceptor.specs.declared.refusal.AcceptRefusal.TheVariants.{NoChecksum, OtherBindings, OtherChecksum}
 
 -- what a checksum's octets say
--- Not judged: the flags, which the caller gets, and the octets after the flags, as those of a delegation (RFC 4121, sections 4.1.1 and
+-- Not judged: the flags, which the caller gets, and without the flag of delegation the octets after the flags (RFC 4121, sections 4.1.1 and
 -- 4.1.1.1). Test: `Octets after the flags, which aren't read.`.
 abbrev pub initial_sum : Bytes → Result InitialChecksum AcceptRefusal
 initial_sum octets =

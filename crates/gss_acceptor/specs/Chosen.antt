@@ -7,6 +7,7 @@ use Rattle.krb_service.specs.Admission.{authorization_data_of, checksum_of, seq_
 use Rattle.krb_ap_requests.specs.Presents.{Choice}
 use Rattle.gss_acceptor.specs.Checksum.{initial_in}
 use Rattle.gss_acceptor.specs.Contexts.{context_key, first_number, own_key}
+use Rattle.gss_acceptor.specs.Delegation.{delegation}
 use Rattle.gss_acceptor.specs.Established.{EstablishedRecord}
 use Rattle.gss_acceptor.specs.declared.accepted.Accepted.{Accepted}
 use Rattle.gss_acceptor.specs.declared.accepted.Accepted.TheVariants.{ContinueNeeded, Established}
@@ -19,8 +20,9 @@ abbrev pub IsKeyOf : Bool → Choice → KeyRecord → Type 0
 IsKeyOf false choice key = context_key (subkey_of choice.authenticator) choice.part.key.0 ≡ Ok key
 IsKeyOf true choice key = (words : Random) × (own_key choice.part.key.0 words ≡ Ok key)
 
--- the client, the times, the ticket's flags and the authorization data are the ticket's; flags and bindings are the authenticator's; the
--- key is by both. No number below the authenticator's is taken: those of a verified MIC and before it aren't, too
+-- the client, the times, the ticket's flags and the authorization data are the ticket's; flags and bindings are the authenticator's, and so
+-- is what is delegated, under the ticket's session key; the key is by both. No number below the authenticator's is taken: those of a
+-- verified MIC and before it aren't, too
 pub record IsChosen (choice : Choice) (established : EstablishedRecord) : Type 0 where
   pub realm : established.realm ≡ choice.part.crealm.0
   pub client : established.client ≡ choice.part.cname.0
@@ -30,6 +32,7 @@ pub record IsChosen (choice : Choice) (established : EstablishedRecord) : Type 0
   pub ticket_flags : established.ticket_flags ≡ choice.part.flags.0
   pub authorization_data : established.authorization_data ≡ authorization_data_of choice.part
   pub initial : initial_in (checksum_of choice.authenticator) ≡ Ok (record { bindings = established.bindings; flags = established.flags })
+  pub delegated : (delegation established.flags choice.part.key.0 (checksum_of choice.authenticator)).gives (Ok established.delegated)
   pub first : ℕ
   pub number : first_number (seq_number_of choice.authenticator) ≡ Ok first
   pub from_first : first ≤ established.context.taking

@@ -7,9 +7,10 @@ use Rattle.krb_messages.specs.declared.data_types.authorization_data.Authorizati
 use Rattle.krb_messages.specs.declared.data_types.principal_name.PrincipalName.{PrincipalName}
 use Rattle.gss_contexts.specs.Contexts.{ContextRecord}
 use Rattle.gss_acceptor.specs.declared.checksum.ContextFlags.{ContextFlags}
+use Rattle.gss_acceptor.specs.declared.delegation.Delegated.{Delegated}
 
 -- a context: the client by its realm and its name, the ticket's times, flags and authorization data, the flags and bindings of the
--- checksum, the acceptor's end, and the token to send if there is one
+-- checksum, what the client delegates, the acceptor's end, and the token to send if there is one
 pub record EstablishedRecord : Type 0 where
   pub realm : Bytes
   pub client : PrincipalName
@@ -20,5 +21,6 @@ pub record EstablishedRecord : Type 0 where
   pub authorization_data : Option (List AuthorizationDataInner)
   pub bindings : Bytes
   pub flags : ContextFlags
+  pub delegated : Option Delegated
   pub context : ContextRecord
   pub reply : Option Bytes

@@ -3,6 +3,7 @@ pub mod Tokens
 pub mod Negotiation
 pub mod Responses
 pub mod Checksum
+pub mod Delegation
 pub mod Contexts
 pub mod Established
 pub mod Answers

@@ -79,7 +79,8 @@ impl<S: Admitter + Drop> Acceptor<S> {
     /// no token, the answer asks for Kerberos. The context is then established by [`Acceptor::resume`].
     ///
     /// The refusals, in this order: `NotAToken` or `NoKerberos`, which leave the acceptor as it was; `Admit`; and of what the service
-    /// admits `NoChecksum`, `OtherChecksum`, `OtherBindings`, `BadSequenceNumber`, `UnknownKey`, `OldSuite`, `Mic`. `Memory` comes either before the
+    /// admits `NoChecksum`, `OtherChecksum`, `OtherBindings`, `BadSequenceNumber`, `UnknownKey`, `OldSuite`,
+    /// `BadDelegation`, `Mic`. `Memory` comes either before the
     /// admission, and leaves the acceptor as it was, or after it. A refusal after the admission leaves the service as `Service::admit`
     /// does: the client needs a new authenticator.
     pub fn accept(

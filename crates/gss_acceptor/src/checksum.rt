@@ -37,7 +37,7 @@ pub struct InitialChecksum {
     pub flags: ContextFlags,
 }
 
-/// Reads the authenticator's checksum, which has to be of type 0x8003. The octets after the flags aren't read.
+/// Reads the authenticator's checksum, which has to be of type 0x8003. The octets after the flags aren't read here.
 pub(crate) fn initial_in(checksum: &Option<Checksum>) -> Result<InitialChecksum, AcceptRefusal>
     ensures { result ≡ initial_in checksum.now }
 {

@@ -2,11 +2,12 @@
 ghost use Rattle.std.specs.Prelude.{◌≡◌, ◌≤◌, length, IfOk, IfErr};
 ghost use Rattle.std.specs.Option.{option_map};
 ghost use Rattle.krb_time.specs.Skew.{IsWithinDay};
-ghost use Rattle.gss_acceptor.specs.Accepting.{IsEstablished, established_of};
+ghost use Rattle.gss_acceptor.specs.Accepting.{IsEstablished, IsEstablishedAs, established_of};
 ghost use Rattle.gss_acceptor.specs.declared.refusal.AcceptRefusal.TheVariants.{Memory};
 
 use crate::answer::ap_rep_in;
 use crate::checksum::{ContextFlags, InitialChecksum};
+use crate::delegation::{Delegated, delegation};
 use crate::judge::{Judged, judge};
 use crate::refusal::AcceptRefusal;
 use crate::terms::AcceptorTerms;
@@ -17,8 +18,8 @@ use picky_asn1::date::GeneralizedTime;
 use std::alloc::Global;
 use std::marker::Model;
 
-/// A context that is established: the client, its ticket's times, flags and authorization data, the flags that it asks for, and the
-/// acceptor's end.
+/// A context that is established: the client, its ticket's times, flags and authorization data, the flags that it asks for, what it
+/// delegates, and the acceptor's end.
 ///
 /// A context's tokens don't end with its ticket. A caller that requires this asks `Context::check_end` before each token: it refuses past the
 /// ticket's endtime with the service's skew.
@@ -44,6 +45,8 @@ pub struct Established {
     /// authentication and the AP-REQ's option mutual-required differ, the option decides whether there is an AP-REP. Each context
     /// protects messages in both ways.
     pub flags: ContextFlags,
+    /// What the client delegates, if its flag says so (RFC 4121, section 4.1.1.1).
+    pub delegated: Option<Delegated>,
     /// The acceptor's end of the context.
     pub context: Context,
     /// The token to send to the initiator, if there is one. No answer to it is due.
@@ -66,6 +69,7 @@ impl Model for Established {
       authorization_data = e.authorization_data;
       bindings = e.bindings;
       flags = e.flags;
+      delegated = e.delegated;
       context = e.context;
       reply = option_map (λ v. v.items) e.reply;
     } };
@@ -85,9 +89,28 @@ pub(crate) fn established_by(
     ensures { IsEstablished terms.now skew words.now admission result }
 {
     match judge(terms, skew, words, &admission) {
-        Ok(judged) => answered(alloc, admission, judged),
+        Ok(judged) => established_as(alloc, admission, judged),
         Err(refusal) => {
             drop(admission);
+            Err(refusal)
+        }
+    }
+}
+
+// The context that was judged so, with what its client delegates.
+fn established_as(
+    alloc: Global,
+    admission: Admission,
+    judged: Judged,
+) -> Result<Established, AcceptRefusal>
+    ensures { IsEstablishedAs admission judged result }
+{
+    let flags = judged.initial.flags;
+    match delegation(alloc, flags, &admission.session, &admission.checksum) {
+        Ok(delegated) => answered(alloc, admission, judged, delegated),
+        Err(refusal) => {
+            drop(admission);
+            drop(judged);
             Err(refusal)
         }
     }
@@ -98,24 +121,31 @@ fn answered(
     alloc: Global,
     mut admission: Admission,
     judged: Judged,
+    delegated: Option<Delegated>,
 ) -> Result<Established, AcceptRefusal>
-    ensures made { IfOk result (λ e. e ≡ established_of admission judged) }
+    ensures made { IfOk result (λ e. e ≡ established_of admission judged delegated) }
     ensures refused { IfErr result (λ e. e ≡ Memory) }
 {
     let message = admission.reply.take();
     match ap_rep_in(alloc, message) {
-        Ok(reply) => Ok(completed(admission, judged, reply)),
+        Ok(reply) => Ok(completed(admission, judged, delegated, reply)),
         Err(_) => {
             drop(admission);
             drop(judged);
+            drop(delegated);
             Err(AcceptRefusal::Memory)
         }
     }
 }
 
 // The context with its client and the answer to it.
-fn completed(admission: Admission, judged: Judged, reply: Option<Vec<u8>>) -> Established
-    ensures { result ≡ record { realm = admission.realm; client = admission.client; authtime = admission.authtime; starttime = admission.starttime; endtime = admission.endtime; ticket_flags = admission.flags; authorization_data = admission.authorization_data; bindings = judged.initial.bindings; flags = judged.initial.flags; context = judged.context; reply = option_map (λ v. v.items) reply } }
+fn completed(
+    admission: Admission,
+    judged: Judged,
+    delegated: Option<Delegated>,
+    reply: Option<Vec<u8>>,
+) -> Established
+    ensures { result ≡ record { realm = admission.realm; client = admission.client; authtime = admission.authtime; starttime = admission.starttime; endtime = admission.endtime; ticket_flags = admission.flags; authorization_data = admission.authorization_data; bindings = judged.initial.bindings; flags = judged.initial.flags; delegated = delegated; context = judged.context; reply = option_map (λ v. v.items) reply } }
 {
     let Judged { initial, context } = judged;
     let Admission {
@@ -139,6 +169,7 @@ fn completed(admission: Admission, judged: Judged, reply: Option<Vec<u8>>) -> Es
         authorization_data,
         bindings,
         flags,
+        delegated,
         context,
         reply,
     }

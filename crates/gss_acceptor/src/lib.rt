@@ -5,7 +5,8 @@
 //! context if and only if its service admits it (`Admitter`) and the admission fits a context, unless memory runs out (`Establishes`,
 //! `judged`). The service has one key, or a keytab's keys, which may be replaced while it runs: no client and time begins two contexts (law
 //! `once_for_ever`). The context has the name, times, flags, authorization data and bindings that the client presented, and its key or the
-//! acceptor's subkey (law `established_as_presented`). Where SPNEGO doesn't offer Kerberos first, a context is handed out only after the
+//! acceptor's subkey (law `established_as_presented`). It has what the client delegates, if its flag says so, and no other delegation than the
+//! session key of its ticket opens (`delegation`). Where SPNEGO doesn't offer Kerberos first, a context is handed out only after the
 //! initiator's MIC was verified (law `established_under_mic`).
 #![tactic(auto)]
 
@@ -16,6 +17,7 @@ mod checksum;
 mod conclude;
 mod context;
 pub mod context_flags;
+mod delegation;
 mod elements;
 mod established;
 mod exchange;
@@ -34,6 +36,7 @@ pub use answer::{NegState, neg_token_resp};
 pub use checksum::{BINDINGS, ContextFlags, InitialChecksum};
 pub use conclude::mic_for_mic;
 pub use context::number_of;
+pub use delegation::{DLG_OPT, Delegated};
 pub use elements::{element_of, joined, octets_in};
 pub use established::Established;
 pub use mechanism::{Mechanism, kerberos_in};

@@ -46,6 +46,11 @@ pub enum AcceptRefusal {
     #[error("the suite has no tokens of RFC 4121")]
     OldSuite,
 
+    /// The initiator's flag says that it delegates, and the checksum has no delegation that the session key opens (RFC 4121, section
+    /// 4.1.1.1).
+    #[error("the checksum has no delegation that the session key opens")]
+    BadDelegation,
+
     /// The initiator's MIC of the list of mechanisms is due, and isn't there (RFC 4178, section 5).
     #[error("the MIC of the list of mechanisms is due, and isn't there")]
     NoMic,
