@@ -51,6 +51,10 @@ offered_parts false true newer e = absurd (cc (e))
 offered_parts false false true e = (refl, refl)
 offered_parts false false false e = absurd (cc (e))
 
+offered_alone : (delegates high newer : Bool) → (if (delegates || high) then Some initiate_refusal.NotOffered else (if newer then None else Some initiate_refusal.OldSuite)) ≡ None → delegates ≡ false
+offered_alone true high newer e = absurd (cc (e))
+offered_alone false high newer e = refl
+
 -- rows that pass
 read_past : (short other : Bool) (initial : InitialChecksum) → short ≡ false → other ≡ false → (if short then Err OtherChecksum else (if other then Err OtherChecksum else Ok initial)) ≡ Ok initial
 read_past true other initial a b = absurd (cc (a))
@@ -167,6 +171,9 @@ acceptor_end login endtime has_reply = record {
 module _ (login : GssLogin) (asking : IsAsking login) where
   pub is_low : nat_le 64 login.initial.flags.0 ≡ false
   is_low = (offered_parts _ (nat_le 64 login.initial.flags.0) (is_newer login.credential.suite) asking.offered).0
+
+  pub is_undelegated : is_set login.initial.flags.0 1 ≡ false
+  is_undelegated = offered_alone (is_set login.initial.flags.0 1) (nat_le 64 login.initial.flags.0) (is_newer login.credential.suite) asking.offered
 
   pub is_newer_suite : is_newer login.credential.suite ≡ true
   is_newer_suite = (offered_parts _ (nat_le 64 login.initial.flags.0) (is_newer login.credential.suite) asking.offered).1

@@ -8,6 +8,7 @@ mod AnsweredEnds
 mod WrittenTokens
 mod Admitted
 mod Accepted
+mod Undelegated
 mod Replied
 mod OneContext
 mod Negotiated

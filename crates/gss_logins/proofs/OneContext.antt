@@ -29,7 +29,7 @@ use Rattle.krb_messages.specs.declared.data_types.enc_ap_rep_part.EncApRepPartIn
 use Rattle.gss_contexts.specs.Contexts.{ContextRecord, is_newer}
 use Rattle.gss_contexts.specs.Tokens.{is_set}
 use Rattle.gss_contexts.specs.declared.side.Side.TheVariants.{Initiator}
-use Rattle.gss_acceptor.specs.Accepting.{AcceptorRecord, AdmitRequest, Establishes, Handles, IsAnsweredAs, IsEstablished, Step, Takes, carried, established_of, judged}
+use Rattle.gss_acceptor.specs.Accepting.{AcceptorRecord, AdmitRequest, Establishes, Handles, IsAnsweredAs, IsEstablished, Step, Takes, carried, delegation_to, established_of, judged}
 use Rattle.gss_acceptor.specs.Concluding.{IsContextAnswered}
 use Rattle.gss_acceptor.specs.Established.{EstablishedRecord}
 use Rattle.gss_acceptor.specs.Tokens.{ap_rep_token}
@@ -58,7 +58,8 @@ use Rattle.gss_initiator.specs.declared.refusal.InitiateRefusal.TheVariants as i
 use Rattle.gss_logins.specs.GssLogins.{GssLogin, acceptor_of, choice_of, clock_of}
 use Rattle.gss_logins.specs.Honest.{IsHonest}
 use Rattle.gss_logins.specs.OneContext.{AreSides, EndsInOneContext, IsAccepted, IsEnded, IsOtherEnd}
-use Rattle.gss_logins.proofs.Accepted.{acceptor_end, acceptor_number, end_key_by, is_newer_suite, judged_so, reply_subkey_sized, sends}
+use Rattle.gss_logins.proofs.Undelegated.{none_delegated, not_refused}
+use Rattle.gss_logins.proofs.Accepted.{acceptor_end, acceptor_number, end_key_by, is_newer_suite, is_undelegated, judged_so, reply_subkey_sized, sends}
 use Rattle.gss_logins.proofs.Admitted.{IsOwn, own_step}
 use Rattle.gss_logins.proofs.Presented.{is_own, presents}
 use Rattle.gss_logins.proofs.Replied.{answers, taken_as_heard}
@@ -159,7 +160,7 @@ module _ (login : GssLogin) (honest : IsHonest login) (request : Bytes) (asks : 
   own_judged reply = record { initial = login.initial; context = acceptor_end login own_endtime (is_some reply) }
 
   abbrev pub own_established : Option Bytes → EstablishedRecord
-  own_established reply = established_of (admission_of shown reply) (own_judged reply)
+  own_established reply = established_of (admission_of shown reply) (own_judged reply) None
 
   -- how an admission was judged
   abbrev IsMade : AdmissionRecord → Result EstablishedRecord AcceptRefusal → Type 0
@@ -198,15 +199,21 @@ module _ (login : GssLogin) (honest : IsHonest login) (request : Bytes) (asks : 
     -- by what was established of an admission
     by_established : (reply : Option Bytes) → IsDueReply (is_mutual login.initial.flags) reply → (made : Result EstablishedRecord AcceptRefusal) (result : Result Accepted AcceptRefusal)
         → IsMade (admission_of shown reply) made → IsAnsweredAs exchange made result → IsResult handed result
-    by_established reply due (Ok established) result (it, judges, same) answered =
+    by_established reply due (Ok established) result (it, judges, (delegated, delegates, same)) answered =
         let own = same_judged it (own_judged reply) (sym judges ∙ judged_is reply) in
-        let whole : established ≡ own_established reply = same ∙ ap (established_of (admission_of shown reply)) own in
+        let told = subst (λ (j : Judged). (delegation_to (admission_of shown reply) j).gives (Ok delegated)) own delegates in
+        let none = none_delegated login.initial.flags _ _ delegated (is_undelegated login honest.asking) told in
+        let whole : established ≡ own_established reply = same ∙ (λ i. established_of (admission_of shown reply) (own i) (none i)) in
         elim (hands_out established result answered) [
           | inl is ↦ inl (reply, due, is ∙ ap (λ (e : EstablishedRecord). Ok (Established (handed e))) whole)
           | inr is ↦ inr (accept_refusal.Memory, is, inl refl)
         ]
     by_established reply due (Err refusal) result (inl judges) answered = let never = sym judges ∙ judged_is reply in absurd (cc (never))
-    by_established reply due (Err refusal) result (inr (memory, it)) answered = inr (refusal, answered, inl memory)
+    by_established reply due (Err refusal) result (inr (it, judges, inl memory)) answered = inr (refusal, answered, inl memory)
+    by_established reply due (Err refusal) result (inr (it, judges, inr refuses)) answered =
+        let own = same_judged it (own_judged reply) (sym judges ∙ judged_is reply) in
+        let told = subst (λ (j : Judged). (delegation_to (admission_of shown reply) j).gives (Err refusal)) own refuses in
+        absurd (not_refused login.initial.flags _ _ refusal (is_undelegated login honest.asking) told)
 
     -- by an admission that is the own one
     by_admission : (admission : AdmissionRecord) (made : Result EstablishedRecord AcceptRefusal) (result : Result Accepted AcceptRefusal)
