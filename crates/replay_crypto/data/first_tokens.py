@@ -80,6 +80,47 @@ def checksum(kind, content):
     return sequence((0, integer(kind)), (1, octet_string(content)))
 
 
+def generalized(time):
+    return der(0x18, time.encode())
+
+
+KRBTGT = ("krbtgt", REALM)
+
+
+def forwarded_ticket(number):
+    """A ticket-granting ticket, which is opaque to whom it is handed on."""
+    sealed = sequence((0, integer(18)), (1, integer(1)), (2, octet_string(octets(f"forwarded {number}", 60))))
+    return application(1, (0, integer(5)), (1, text(REALM)), (2, name(*KRBTGT)), (3, sealed))
+
+
+def cred_info(number, suite=18, whole=True):
+    """A KrbCredInfo (RFC 4120, section 5.8.1), with all of its fields or with the key alone."""
+    key = (0, key_of(suite, octets(f"forwarded key {number}", KEY_SIZES.get(suite, 16))))
+    if not whole:
+        return sequence(key)
+    address = der(0x30, sequence((0, integer(2)), (1, octet_string(b"\x7f\0\0\1"))))
+    return sequence(
+        key, (1, text(REALM)), (2, name(*CLIENT)), (3, bits(0x60A10000)), (4, generalized("20260101110000Z")), (5, generalized("20260101115900Z")),
+        (6, generalized("20260101210000Z")), (7, generalized("20260108110000Z")), (8, text(REALM)), (9, name(*KRBTGT)), (10, address),
+    )
+
+
+def deleg(tickets, infos, key=None, suite=None, usage=14, version=5, kind=22, part=29, etype=None, rest=(), cut=None):
+    """What follows the flags of a login that delegates. It can be told to deviate: `etype` is told in place of the suite's, and 0 has the part
+    as it is. `rest` are further fields of the part, and `cut` changes the octets of the KRB-CRED."""
+
+    def made(login):
+        sealing = suite or login.suite
+        plain = application(part, (0, der(0x30, *infos)), *rest)
+        cipher = plain if etype == 0 else SUITES[sealing].encrypt(key(login) if key else login.session, usage, octets(f"deleg {login.micros}", 16), plain)
+        sealed = sequence((0, integer(sealing if etype is None else etype)), (2, octet_string(cipher)))
+        whole = application(22, (0, integer(version)), (1, integer(kind)), (2, der(0x30, *tickets)), (3, sealed))
+        whole = cut(whole) if cut else whole
+        return b"\1\0" + len(whole).to_bytes(2, "little") + whole
+
+    return made
+
+
 class Login:
     """A client's login, and what it leads to. Each can be told to deviate. `own`: the acceptor has a subkey and a first sequence number of its
     own, where there is an AP-REP. Of its 64 random octets the first 16 are the confounder, 31 bits of the next four the number, and the
@@ -87,7 +128,7 @@ class Login:
 
     count = 0
 
-    def __init__(self, suite, mutual=True, subkey=True, number=1000, initial=None, kind=0x8003, service=SERVICE, time=NOW, key_suite=None, key_size=None, own=False):
+    def __init__(self, suite, mutual=True, subkey=True, number=1000, initial=None, kind=0x8003, service=SERVICE, time=NOW, key_suite=None, key_size=None, own=False, delegates=None):
         Login.count += 1
         self.suite, self.mutual, self.time, self.micros = suite, mutual, time, Login.count
         self.number = number
@@ -95,6 +136,8 @@ class Login:
         self.key_suite = key_suite or suite
         self.subkey = octets(f"subkey {Login.count}", key_size or KEY_SIZES.get(self.key_suite, 16)) if subkey else None
         self.initial = initial_checksum(FLAGS if mutual else FLAGS & ~2) if initial is None else initial
+        if delegates:
+            self.initial = initial_checksum((FLAGS if mutual else FLAGS & ~2) | 1, rest=delegates(self))
         self.checksum = checksum(kind, self.initial) if kind else None
         self.service = service
         self.own = own and mutual
@@ -163,6 +206,8 @@ HEAD = """\
 #                                            if it has a subkey and a first number of its own, else `session`; BINDINGS are its channel bindings
 #   accept EXPECTED MOMENT CLIENT FLAGS | TOKEN WORDS REPLY BINDINGS   a first token
 #   resume EXPECTED MOMENT CLIENT FLAGS | TOKEN WORDS REPLY BINDINGS   the next token of the negotiation that the last ContinueNeeded began
+#   delegated EXPECTED | TICKETS INFOS       what the context that was established last has of its initiator: the encodings of the tickets and
+#                                            of what is told of them, as lists; EXPECTED is `none` if that is nothing, else `ok`
 #   check_end EXPECTED MOMENT | -            whether the context is over"""
 lines = []
 
@@ -452,6 +497,86 @@ def ends(suite):
         lines.append(f"check_end {outcome} {moment} | -")
 
 
+def delegate(login, tickets, infos):
+    """The first token establishes a context, with these tickets of its initiator."""
+    accept(login)
+    lines.append(f"delegated ok | {der(0x30, *tickets).hex()} {der(0x30, *infos).hex()}")
+
+
+def delegations(suite):
+    begin(suite)
+    section("A delegation. It is under the session key also where there is a subkey, with each field or with none that may be left out.")
+    one, two = forwarded_ticket(1), forwarded_ticket(2)
+    delegate(Login(suite, delegates=deleg([one], [cred_info(1)])), [one], [cred_info(1)])
+    delegate(Login(suite, mutual=False, subkey=False, number=None, delegates=deleg([one], [cred_info(1)])), [one], [cred_info(1)])
+    delegate(Login(suite, key_suite=19, delegates=deleg([one], [cred_info(1, whole=False)])), [one], [cred_info(1, whole=False)])
+    further = ((1, integer(7)), (2, generalized(NOW)), (3, integer(5)), (4, sequence((0, integer(2)), (1, octet_string(b"\x7f\0\0\1")))))
+    delegate(Login(suite, delegates=deleg([one], [cred_info(1, suite=23)], rest=further)), [one], [cred_info(1, suite=23)])
+    section("More tickets than one. A delegation with extensions after it.")
+    both = [cred_info(1), cred_info(2, suite=17)]
+    delegate(Login(suite, delegates=deleg([one, two], both)), [one, two], both)
+    behind = deleg([one], [cred_info(1)])
+    delegate(Login(suite, delegates=lambda login: behind(login) + b"\0\0\0\1\0\0\0\0"), [one], [cred_info(1)])
+    section("A delegation in a negotiation, and none after it.")
+    login = Login(suite, delegates=deleg([one], [cred_info(1)]))
+    accept(login, negotiated(login.token(), KRB5, NTLM), lambda reply: response(ACCEPT_COMPLETED, KRB5, reply))
+    lines.append(f"delegated ok | {der(0x30, one).hex()} {der(0x30, cred_info(1)).hex()}")
+    ask_for_mics(Login(suite, delegates=deleg([two], [cred_info(2)])), (NTLM, KRB5), late=True)
+    lines.append(f"delegated ok | {der(0x30, two).hex()} {der(0x30, cred_info(2)).hex()}")
+    accept(Login(suite))
+    lines.append("delegated none | - -")
+
+
+def bad_delegations(suite):
+    begin(suite)
+    one, info = forwarded_ticket(1), cred_info(1)
+    good = deleg([one], [info])
+    section("Delegations that aren't any. The same token is then a replay.")
+    for made in (
+        lambda login: b"",
+        lambda login: b"\1\0\0",
+        lambda login: b"\1\0\0\0",
+        lambda login: b"\1\0\2\0ab",
+        lambda login: b"\0\0" + good(login)[2:],
+        lambda login: b"\2\0" + good(login)[2:],
+        lambda login: b"\0\1" + good(login)[2:],
+        lambda login: good(login)[:2] + good(login)[3:1:-1] + good(login)[4:],
+        lambda login: good(login)[:-1],
+        lambda login: good(login)[4:],
+        deleg([one], [info], cut=lambda whole: whole[:-1]),
+        deleg([one], [info], cut=lambda whole: whole + b"\0"),
+        deleg([one], [info], cut=lambda whole: changed(whole, 0)),
+    ):
+        token = Login(suite, delegates=made).token()
+        refuse("BadDelegation", token)
+        refuse("Admit(Krb(34))", token)
+    section("Delegations that don't open.")
+    for made in (
+        deleg([one], [info], key=lambda login: login.subkey),
+        deleg([one], [info], key=lambda login: bytes(KEY_SIZES[suite])),
+        deleg([one], [info], usage=13),
+        deleg([one], [info], usage=11),
+        deleg([one], [info], etype=0),
+        deleg([one], [info], etype=17 if suite != 17 else 18),
+        deleg([one], [info], etype=23),
+        deleg([one], [info], suite=17 if suite != 17 else 18, key=lambda login: login.session[: KEY_SIZES[17]]),
+        deleg([one], [info], part=28),
+        deleg([one], [info], version=4),
+        deleg([one], [info], kind=21),
+        deleg([one], []),
+        deleg([], [info]),
+        deleg([], []),
+        deleg([one], [info, info]),
+        deleg([one, one], [info]),
+        deleg([one], [info], cut=lambda whole: changed(whole, -1)),
+        deleg([one], [der(0x30)]),
+    ):
+        refuse("BadDelegation", Login(suite, delegates=made).token())
+    refuse("OldSuite", Login(suite, key_suite=16, delegates=deleg([one], [])).token())
+    refuse("BadSequenceNumber", Login(suite, number=2**32, delegates=deleg([], [])).token())
+    delegate(Login(suite, delegates=good), [one], [info])
+
+
 def main():
     check_against_the_standards()
     for suite in SUITES:
@@ -462,7 +587,8 @@ def main():
     section("A subkey of another suite than the ticket's.")
     accept(Login(suite, key_suite=19))
     section("Octets after the flags, which aren't read. Sequence numbers of 32 bits, also written as negative ones.")
-    accept(Login(suite, initial=initial_checksum(FLAGS | 1, rest=b"\1\0\2\0ab")))
+    accept(Login(suite, initial=initial_checksum(FLAGS, rest=b"\1\0\2\0ab")))
+    lines.append("delegated none | - -")
     accept(Login(suite, number=2**32 - 1))
     accept(Login(suite, number=-2))
     section("The same token again, also in SPNEGO; and the times at the skew's ends.")
@@ -522,6 +648,9 @@ def main():
         bindings(suite)
         in_sequence(suite)
     ends(suite)
+    for suite in SUITES:
+        delegations(suite)
+    bad_delegations(suite)
     with open("first_tokens.txt", "w", encoding="ascii") as file:
         file.write(HEAD + "\n" + "\n".join(lines) + "\n")
     print(sum(not line.startswith("#") for line in lines), "lines")

@@ -7,7 +7,7 @@ mod calls;
 mod initiate;
 
 use call::{Call, call_of};
-use gss_acceptor::{Acceptor, Negotiation};
+use gss_acceptor::{Acceptor, Delegated, Negotiation};
 use gss_contexts::{Context, Protection};
 use gss_initiator::Pending;
 use krb_service::Service;
@@ -31,6 +31,8 @@ pub(crate) struct Ends {
     pub(crate) negotiation: Option<Negotiation>,
     pub(crate) pending: Option<Pending>,
     pub(crate) context: Option<Context>,
+    /// What the initiator of the context that an acceptor established last delegated.
+    pub(crate) delegated: Option<Delegated>,
 }
 
 /// Replays the files of calls.
@@ -41,6 +43,7 @@ pub(crate) fn replay_contexts(rt: &HostRuntime) -> anyhow::Result<()> {
             negotiation: None,
             pending: None,
             context: None,
+            delegated: None,
         };
         let replayed = replay(rt, &mut ends, file);
         drop(ends);
@@ -62,6 +65,7 @@ impl Rows for Ends {
             "new" => begin::begins(alloc, &mut self.context, &call),
             "acceptor" => accept::begins(alloc, &mut self.acceptor, &call),
             "accept" | "resume" => accept::accepts(alloc, self, &call),
+            "delegated" => accept::delegates(alloc, self, &call),
             "initiate" => initiate::initiates(alloc, self, &call),
             "take" => initiate::takes(alloc, self, &call),
             _ => match &mut self.context {

@@ -1,5 +1,6 @@
 //! Lines of an acceptor: `acceptor EXPECTED SUITE SKEW FLAG | KEY BINDINGS`, and `accept EXPECTED MOMENT CLIENT FLAGS | TOKEN WORDS REPLY
-//! BINDINGS` of a first token. A line `resume` is the same of the negotiation's next token.
+//! BINDINGS` of a first token. A line `resume` is the same of the negotiation's next token, and `delegated EXPECTED | TICKETS INFOS` has what
+//! the context's initiator delegated.
 
 use super::call::{Call, suite_of};
 use super::{Ends, is_named};
@@ -9,6 +10,7 @@ use gss_acceptor::{Accepted, Acceptor, AcceptorTerms, Continuation, Established}
 use krb_crypto::CipherSuite;
 use krb_service::Service;
 use krb_time::Moment;
+use picky_asn1_der::to_vec;
 use std::alloc::Global;
 use test_support::Told;
 
@@ -93,6 +95,8 @@ fn goes_on(
         Accepted::Established(established) => {
             let is_expected = is_established(alloc, &established, row)?;
             drop(ends.context.replace(established.context));
+            drop(ends.delegated.take());
+            ends.delegated = established.delegated;
             Ok(is_expected)
         }
         Accepted::ContinueNeeded(continuation) => {
@@ -104,6 +108,23 @@ fn goes_on(
             Ok(row.expected == "ContinueNeeded" && reply.as_slice() == expected.as_slice())
         }
     }
+}
+
+/// Whether the initiator of the last context delegated these tickets.
+pub(crate) fn delegates(alloc: Global, ends: &Ends, row: &Call<'_>) -> anyhow::Result<bool> {
+    let [tickets, infos] = row.columns.as_slice() else {
+        bail!("a line `delegated` of another shape");
+    };
+    let Some(delegated) = &ends.delegated else {
+        return Ok(row.expected == "none");
+    };
+    let told = to_vec(alloc, &delegated.infos)?;
+    let handed_on = to_vec(alloc, &delegated.tickets)?;
+    Ok(
+        row.expected == "ok"
+            && handed_on.as_slice() == tickets.as_slice()
+            && told.as_slice() == infos.as_slice(),
+    )
 }
 
 /// Whether this context is expected.
