@@ -2,16 +2,16 @@
 
 use crate::PROGRAM;
 use crate::answer::{CONTEXT, CONTEXT_NEXT, NOOP, answer_of, is_set};
+use crate::delegated::write_delegated;
 use crate::frame::{Frame, read_frame, write_frame};
 use crate::keytab_file::KeytabFile;
 use crate::service_keys::ServiceKeys;
 use crate::user::{Ticket, say_user};
 use anyhow::{Context as _, bail};
 use byte_streams::{Sink, Source, read_full};
-use gss_acceptor::{Accepted, Acceptor, Continuation, Established, Negotiation};
+use gss_acceptor::{Accepted, Acceptor, Continuation, Delegated, Established, Negotiation};
 use gss_contexts::Context;
 use krb_commands::PrintableName;
-use krb_crypto::Key;
 use krb_programs::say;
 use krb_service::KeytabService;
 use krb_time::{Moment, now};
@@ -43,6 +43,8 @@ pub(crate) struct Server<K: Source + Drop> {
     pub(crate) words: K,
     /// The moments.
     pub(crate) time: Time,
+    /// The path of the credential cache of what clients delegate, if it is kept.
+    pub(crate) delegated: Option<String>,
 }
 
 impl<K: Source + Drop> Server<K> {
@@ -161,7 +163,7 @@ fn establish<K: Source + Drop, R: Source, W: Sink>(
     for _ in 0..u64::MAX {
         accepted = match accepted {
             Accepted::Established(established) => {
-                return begin(rt, server.keys.as_slice(), writer, established);
+                return begin(rt, server, writer, established);
             }
             Accepted::ContinueNeeded(continuation) => {
                 go_on(rt, server, reader, writer, continuation)?
@@ -193,10 +195,11 @@ fn context_token<R: Source>(alloc: Global, reader: &mut R) -> anyhow::Result<Vec
     }
 }
 
-// Sends the reply, if there is one, and says who logged in, with the user and the groups of a verified PAC.
-fn begin<W: Sink>(
+// Sends the reply, if there is one, and says who logged in, with the user and the groups of a verified PAC. Keeps what the client delegates,
+// if that is asked for.
+fn begin<K: Source + Drop, W: Sink>(
     rt: &HostRuntime,
-    keys: &[Key],
+    server: &Server<K>,
     writer: &mut W,
     established: Established,
 ) -> anyhow::Result<Context> {
@@ -205,10 +208,12 @@ fn begin<W: Sink>(
         realm,
         authtime,
         authorization_data,
+        delegated,
         context,
         reply,
         ..
     } = established;
+    let keys = server.keys.as_slice();
     if let Some(reply) = reply {
         send(rt.alloc(), writer, CONTEXT, reply)?;
     }
@@ -226,7 +231,25 @@ fn begin<W: Sink>(
         };
         say_user(rt, keys, &ticket);
     }
+    if let Some(delegated) = &delegated {
+        keep(rt, &server.delegated, delegated);
+    }
     Ok(context)
+}
+
+// Writes what a client delegates to the credential cache, if there is one. The login stands where that fails.
+fn keep(rt: &HostRuntime, path: &Option<String>, delegated: &Delegated) {
+    let Some(path) = path else {
+        return;
+    };
+    match write_delegated(rt, path.as_str(), delegated) {
+        Ok(()) => say(
+            rt,
+            PROGRAM,
+            format_args!("{path}: has what the client delegates"),
+        ),
+        Err(stop) => say(rt, PROGRAM, format_args!("{stop}")),
+    }
 }
 
 // Answers the messages of a context, up to the frame that ends it.

@@ -18,14 +18,12 @@ use std::fs::{self, Files};
 const SKEW: u64 = 300;
 
 /// The server of the program's arguments: a keytab, a file of random octets, a moment and a service's name with its realm. With `subkey`
-/// behind them the acceptor's subkeys protect the contexts.
+/// behind them the acceptor's subkeys protect the contexts. With `delegated` and a path what clients delegate is written there.
 pub(crate) fn server_of(
     rt: &HostRuntime,
 ) -> anyhow::Result<Server<Watched<<HostRuntime as Files>::File>>> {
     let mut arguments = env::args(rt)?.skip(1);
-    let (Some(keytab), Some(words), Some(moment), Some(service), further, None) = (
-        arguments.next(),
-        arguments.next(),
+    let (Some(keytab), Some(words), Some(moment), Some(service)) = (
         arguments.next(),
         arguments.next(),
         arguments.next(),
@@ -33,7 +31,15 @@ pub(crate) fn server_of(
     ) else {
         bail!("expected: a keytab, a file of random octets, a moment and a service with its realm");
     };
-    let terms = terms_of(&further).context("expected: subkey or nothing after the service")?;
+    let further = (
+        arguments.next(),
+        arguments.next(),
+        arguments.next(),
+        arguments.next(),
+    );
+    let Further { terms, delegated } = further_of(further).context(
+        "expected: subkey, delegated CACHE, both or nothing after the service",
+    )?;
     let time = time_of(moment.as_str()).context("no moment: expected now or YYYYMMDDHHMMSSZ")?;
     let mut keytab = KeytabFile::new(keytab);
     let (service, keys) = service_in(rt, &mut keytab, service.as_str())?;
@@ -44,21 +50,49 @@ pub(crate) fn server_of(
         keys,
         words: Watched::new(words),
         time,
+        delegated,
     })
 }
 
-// The acceptor's terms by the argument after the service. The sample protocol has no channel bindings.
-fn terms_of(further: &Option<String>) -> Option<AcceptorTerms> {
-    let Some(word) = further else {
-        return Some(AcceptorTerms::PLAIN);
-    };
-    if word.as_str() != "subkey" {
-        return None;
+// What the arguments after the service say.
+#[derive(Drop)]
+struct Further {
+    terms: AcceptorTerms,
+    // The path of the credential cache of what clients delegate, if it is kept.
+    delegated: Option<String>,
+}
+
+// Up to four arguments after the service.
+type Arguments = (
+    Option<String>,
+    Option<String>,
+    Option<String>,
+    Option<String>,
+);
+
+// What the arguments after the service say, if they are such arguments.
+fn further_of(arguments: Arguments) -> Option<Further> {
+    match arguments {
+        (None, None, None, None) => Some(further(false, None)),
+        (Some(word), None, None, None) if word.as_str() == "subkey" => Some(further(true, None)),
+        (Some(word), Some(path), None, None) if word.as_str() == "delegated" => {
+            Some(further(false, Some(path)))
+        }
+        (Some(first), Some(word), Some(path), None)
+            if first.as_str() == "subkey" && word.as_str() == "delegated" => {
+            Some(further(true, Some(path)))
+        }
+        _ => None,
     }
-    Some(AcceptorTerms {
-        with_subkey: true,
+}
+
+// The sample protocol has no channel bindings.
+fn further(with_subkey: bool, delegated: Option<String>) -> Further {
+    let terms = AcceptorTerms {
+        with_subkey,
         ..AcceptorTerms::PLAIN
-    })
+    };
+    Further { terms, delegated }
 }
 
 // The moments of this text.
