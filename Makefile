@@ -3,7 +3,7 @@
 
 RT ?= rt
 BENCH ?= as_exchange
-FAULTS ?= refused_growths hostile login_faults downgrades lost_files accounts_tool listener_attacks
+FAULTS ?= refused_growths hostile login_faults downgrades lost_files accounts_tool listener_attacks kpasswdd_faults
 PORT ?= 8888
 PREFIX ?= /usr/local
 # The limit of a run without proof: on a busy machine it takes several times its processor seconds.
@@ -12,7 +12,7 @@ CRATES := $(sort $(notdir $(patsubst %/src,%,$(wildcard crates/*/src))))
 REALM := out/realm
 
 .DEFAULT_GOAL := help
-.PHONY: help try encodings test listener imports programs check gate faults settings build install uninstall run clients passwords move logins pkinit gss initiator services bench plant fmt docs definitions budget crate-named kit-there port-free
+.PHONY: help try encodings test listener imports programs check gate faults settings build install uninstall run clients passwords move logins pkinit gss initiator services delegation bench plant fmt docs definitions budget crate-named kit-there port-free
 
 help: ## list the targets
 	@sed -n 's/^\([a-z]*\):[^#]*## /\1\t/p' Makefile | expand -t 14
@@ -86,6 +86,9 @@ gss: ## log in to the example acceptor with MIT's gss-client, step by step
 
 services: ## log in to sshd, Samba, OpenLDAP, PostgreSQL, Apache, Dovecot, SSSD and Java by tickets of krb_kdcd, as root, step by step
 	examples/stock_services.sh
+
+delegation: ## delegate logins to sshd and Apache by tickets of krb_kdcd and of MIT's krb5kdc, as root, step by step
+	examples/delegation.sh
 
 initiator: ## log in with the example initiator at stock acceptors of MIT and Heimdal, and at Apache, step by step
 	examples/gss_servers.sh

@@ -1,9 +1,9 @@
 #!/bin/sh
-# Logins are delegated to stock services: delegation.sh [realm|mit ..], at krb_kdcd and at MIT's krb5kdc, or at the one that is named. OpenSSH
-# forwards the ticket of a user to sshd, and curl that of a user to Apache with mod_auth_gssapi. There klist shows the ticket's flags, and kvno
-# gets a ticket for a service by it. It is forwarded once more, and renewed there. The tickets are those of kinit of MIT and Heimdal, and of
-# krb_login. Without the option, with a ticket that isn't forwardable, or in a realm whose policy grants none, a user is logged in and nothing
-# is delegated. Prints what each step gave; the status is 1 where one differs from what it should, and 2 where a program is missing.
+# Logins are delegated to stock services: delegation.sh [realm|mit ..], at krb_kdcd and at MIT's krb5kdc, or at the one that is named.
+# OpenSSH forwards a user's ticket to sshd, and curl to Apache with mod_auth_gssapi. There klist shows the ticket's flags, and kvno gets
+# a ticket for a service by it. From sshd it is forwarded once more, and renewed there. The tickets are those of kinit of MIT and Heimdal,
+# and of krb_login. Without the option, with a ticket that isn't forwardable, or in a realm whose policy grants none, a user is logged in and
+# nothing is delegated. Prints what each step gave; the status is 1 where one differs from what it should, and 2 where a program is missing.
 #
 # It runs as root, in namespaces of its own: with a copy of /etc, a network of its own, and folders of the services that are empty. So
 # nothing of this machine changes. KRB_KDCD, KRB_ACCOUNTS and KRB_LOGIN may name programs that are built already. HEIMDAL is as in
@@ -137,7 +137,12 @@ gss() {
     gss-client -port "$port" "$@" localhost "host@$host" "a message" >/dev/null && wait "$started" && grep "context flag" "$work/log"
 }
 
-# far_is_empty COMMAND..: alice is logged in, and nothing is delegated to sshd.
+# farther COMMAND: the same one machine on, with delegation on both ways.
+farther() {
+    far yes "ssh -o GSSAPIDelegateCredentials=yes $host $1"
+}
+
+# far_is_empty: alice is logged in, and nothing is delegated to sshd.
 far_is_empty() {
     [ "$(far yes whoami)" = alice ] && far yes klist
 }
@@ -150,8 +155,8 @@ steps() {
     try "  no ticket is there" no "No credentials cache found" far no klist
     try "ssh, with delegation: klist there" yes "Flags: $1\$" far yes "klist -f"
     try "  kvno there, by the forwarded ticket" yes "^HTTP/$host@EXAMPLE.COM: kvno = 1" far yes "kvno HTTP/$host"
-    try "  the forwarded ticket is forwarded once more: klist there" yes "Flags: $1\$" far yes "ssh -o GSSAPIDelegateCredentials=yes $host klist -f"
-    try "  kvno there" yes "^HTTP/$host@EXAMPLE.COM: kvno = 1" far yes "ssh -o GSSAPIDelegateCredentials=yes $host kvno HTTP/$host"
+    try "  the forwarded ticket is forwarded once more: klist there" yes "Flags: $1\$" farther "klist -f"
+    try "  kvno there" yes "^HTTP/$host@EXAMPLE.COM: kvno = 1" farther "kvno HTTP/$host"
     try "  kinit -R there" yes "Flags: $1\$" far yes "kinit -R && klist -f"
     try "  the renewed ticket is forwarded" yes "Flags: $1\$" far yes "kinit -R && ssh -o GSSAPIDelegateCredentials=yes $host klist -f"
     try "  the sessions are over: no ticket is left" yes "" none_is_left

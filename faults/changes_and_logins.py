@@ -82,8 +82,8 @@ def change_next(run, own, configuration):
 
 def kpasswd(configuration, user, old, new):
     """Stock kpasswd: nothing, or what it said where it isn't done."""
-    environment = dict(os.environ, KRB5_CONFIG=configuration, LC_ALL="C")
-    ran = subprocess.run(["kpasswd", user], input=f"{old}\n{new}\n{new}\n", text=True, capture_output=True, timeout=SECONDS, env=environment)
+    environment, typed = dict(os.environ, KRB5_CONFIG=configuration, LC_ALL="C"), f"{old}\n{new}\n{new}\n"
+    ran = subprocess.run(["kpasswd", user], input=typed, text=True, capture_output=True, timeout=SECONDS, env=environment)
     if ran.returncode == 0 and "Password changed" in ran.stdout:
         return None
     return f"kpasswd's status is {ran.returncode}: {(ran.stdout + ran.stderr).strip().splitlines()[-1:]}"
@@ -162,7 +162,8 @@ def granted_fault(reply, key, kvno, nonce):
 
 def make_realm(run, folder):
     """A text of accounts with these users, and its database."""
-    steps = [accounts(folder, "create", "-k", "random", "accounts", REALM.decode()), accounts(folder, "add", "-k", "random", "accounts", "kadmin/changepw")]
+    steps = [accounts(folder, "create", "-k", "random", "accounts", REALM.decode())]
+    steps.append(accounts(folder, "add", "-k", "random", "accounts", "kadmin/changepw"))
     steps += [accounts(folder, "add", "accounts", it.name, given=it.passwords[0].text + "\n") for it in run.users.values()]
     steps.append(accounts(folder, "make", "accounts", "accounts.cdb"))
     assert not any(steps), next(filter(None, steps))
@@ -173,14 +174,12 @@ def serving(run, folder):
     """The port of krb_kdcd, and that of krb_kpasswdd. That admits no request of a time before its start."""
     make_realm(run, folder)
     text, database = os.path.join(folder, "accounts"), os.path.join(folder, "accounts.cdb")
-    with contextlib.ExitStack() as stack:
-        ports = []
-        for name, command, workers in (("kdc", [KDCD, database, "/dev/urandom", "--log"], 2), ("passwords", [KPASSWDD, text, database, "/dev/urandom"], 1)):
-            own = os.path.join(folder, name)
-            os.mkdir(own)
-            ports.append(stack.enter_context(listening(own, command, workers))[1])
-        time.sleep(1)
-        yield ports
+    kdc, passwords = os.path.join(folder, "kdc"), os.path.join(folder, "passwords")  # their logs
+    os.mkdir(kdc), os.mkdir(passwords)
+    with listening(kdc, [KDCD, database, "/dev/urandom", "--log"], 2) as (_, kdc_port):
+        with listening(passwords, [KPASSWDD, text, database, "/dev/urandom"], 1) as (_, port):
+            time.sleep(1)
+            yield kdc_port, port
 
 
 def write_configuration(path, kdc, passwords):
@@ -227,17 +226,17 @@ def main(changes=CHANGES):
         with serving(run, folder) as (kdc, passwords):
             configuration = os.path.join(folder, "krb5.conf")
             write_configuration(configuration, kdc, passwords)
-            threads = [threading.Thread(target=repeat, args=(run, change_next, USERS[at::CHANGERS], configuration)) for at in range(CHANGERS)]
-            threads += [threading.Thread(target=repeat, args=(run, login_next, random.Random(at), asking_udp(kdc))) for at in range(CLIENTS)]
-            threads.append(threading.Thread(target=repeat, args=(run, edit_next, folder)))
+            steps = [(run, change_next, USERS[at::CHANGERS], configuration) for at in range(CHANGERS)]
+            steps += [(run, login_next, random.Random(at), asking_udp(kdc)) for at in range(CLIENTS)]
+            threads = [threading.Thread(target=repeat, args=it) for it in [*steps, (run, edit_next, folder)]]
             for it in threads:
                 it.start()
             for it in threads:
                 it.join()
             judge_end(run, folder, asking_udp(kdc))
     counts = run.counts
-    print(f"{run.changed} changes and {len(run.edited)} further accounts in {time.monotonic() - began:.0f} seconds; {counts['granted']} logins granted, "
-          f"{counts['refused']} refused, {counts['under way']} while their user's password was being changed")
+    print(f"{run.changed} changes and {len(run.edited)} further accounts in {time.monotonic() - began:.0f} seconds; "
+          f"{counts['granted']} logins granted, {counts['refused']} refused, {counts['under way']} while the password was being changed")
     print(f"{counts['right']} right, {run.wrong} wrong")
     return int(run.wrong > 0)
 

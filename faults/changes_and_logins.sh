@@ -5,8 +5,8 @@
 # reply is sealed under the key of the password that was asked with, and has its kvno. At the end text and database agree, and have the
 # last password of each user. Prints a line for each failure; the status is 1 where there is one, and 2 where a tool is missing.
 #
-# Usage: faults/changes_and_logins.sh [CHANGES]. With each change there are 100 logins. The clients' encryption is libk5crypto's, which is of
-# the package of MIT's clients. KRB_KPASSWDD, KRB_KDCD and KRB_ACCOUNTS may name built programs.
+# Usage: faults/changes_and_logins.sh [CHANGES]. With each change there are 100 logins. The clients encrypt by libk5crypto, which comes with
+# kpasswd. KRB_KPASSWDD, KRB_KDCD and KRB_ACCOUNTS may name built programs.
 #
 # It needs kpasswd and python3: on Debian krb5-user.
 set -e

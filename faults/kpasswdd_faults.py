@@ -58,9 +58,11 @@ class Ran:
     def said(self):
         return ", ".join([f"status {self.status}", *self.replies, *self.lines])
 
-    def fault(self):
+    def fault(self, may_fail_twice):
         """What is wrong with replies, status and lines of a run that wasn't killed. Each hard error has its line, and so has an end by a
-        status but 0."""
+        status but 0. One fault keeps the run from one change alone."""
+        if self.replies.count("hard error") > 1 and not may_fail_twice:
+            return self.said()
         if self.status == 127 and self.lines and OF_LOADER.match(self.lines[0]):
             return None
         count = self.replies.count("hard error") + (self.status != 0)
@@ -89,11 +91,15 @@ class Realm:
     def fresh(self, **how):
         return Fresh(self.start, **how)
 
-    def fault(self, run, ran, was_killed=False, may_be_left=False):
-        """What is wrong with the files after a run, or with the next one, or none."""
-        files = [self.texts.get(content(f"{run}/{TEXT}")), self.databases.get(content(f"{run}/{DATABASE}"))]
-        fault = None if was_killed else ran.fault()
+    def fault(self, run, ran, was_killed=False, may_be_left=False, may_fail_twice=False):
+        """What is wrong with a run, with the files after it, or with the next one, or none."""
+        files = self.files(run)
+        fault = None if was_killed else ran.fault(may_fail_twice)
         return fault or files_fault(*files, ran) or self.left(run, was_killed or may_be_left) or next_fault(run)
+
+    def files(self, run):
+        """The changes that the text has, and those of the database: none where it is neither an old file nor a new one."""
+        return self.texts.get(content(f"{run}/{TEXT}")), self.databases.get(content(f"{run}/{DATABASE}"))
 
     def left(self, run, may_be_left):
         left = [name for name in os.listdir(run) if name.endswith(".new")]
@@ -167,8 +173,9 @@ def injected(realm, call, what, **how):
     name, number = call
     with realm.fresh() as run:
         ran = Ran(run, BOTH, ["strace", "-f", "-o", "/dev/null", "-e", f"inject={name}:{what}:when={number}"])
-        files = realm.texts.get(content(f"{run}/{TEXT}")), realm.databases.get(content(f"{run}/{DATABASE}"))
-        fault = realm.fault(run, ran, may_be_left=name.startswith("unlink"), **how)
+        files = realm.files(run)
+        # Where close fails by strace, the file stays open, and so its lock stays.
+        fault = realm.fault(run, ran, may_be_left=name.startswith("unlink"), may_fail_twice=name == "close", **how)
     return fault and f"{what} at call {number} of {name}: {fault}", (*files, ran)
 
 
@@ -203,8 +210,8 @@ def refused_memory(realm, tries, pool):
         refused(0)
         count = int(content(f"{counted}-0"))
         ended = list(pool.map(refused, range(1, count + 1)))
-    tries.tell(f"each of {count} requests for memory refused", [fault and f"request {at}: {fault}" for at, (fault, _) in enumerate(ended, 1)],
-               [said for _, said in ended])
+    faults = [fault and f"request {at}: {fault}" for at, (fault, _) in enumerate(ended, 1)]
+    tries.tell(f"each of {count} requests for memory refused", faults, [said for _, said in ended])
 
 
 # Disks
@@ -225,10 +232,10 @@ def full_disks(realm, tries, _pool):
         for is_ignored in (True, False):
             with realm.fresh() as run:
                 ran = Ran(run, BOTH, **limited(size, is_ignored))
-                held = realm.texts.get(content(f"{run}/{TEXT}"))
+                held, _ = realm.files(run)
                 wanted = ran.replies == ["hard error"] * 2 and held == text if is_ignored else ran.status == -signal.SIGXFSZ
                 fault = None if wanted else f"{title}: the text has the changes '{held}', after: {ran.said()}"
-                fault = fault or realm.fault(run, ran, was_killed=not is_ignored)
+                fault = fault or realm.fault(run, ran, was_killed=not is_ignored, may_fail_twice=True)
             tries.tell(f"{title}, a longer one {'is a fault' if is_ignored else 'kills'}", [fault], [ran.said()])
     with tempfile.TemporaryDirectory() as disk:
         if subprocess.run(["mount", "-t", "tmpfs", "-o", "size=64k", "none", disk], capture_output=True).returncode:
@@ -253,7 +260,7 @@ def on_disk(realm, tries, disk):
         ran = Ran(run, BOTH)
         fault = None if ran.replies == ["hard error"] * 2 else f"a full disk: {ran.said()}"
         os.remove(filler)
-        tries.tell("a full disk", [fault or realm.fault(run, ran)], [ran.said()])
+        tries.tell("a full disk", [fault or realm.fault(run, ran, may_fail_twice=True)], [ran.said()])
 
 
 # Locks
@@ -275,11 +282,11 @@ def locks(realm, tries, _pool):
 
 def lock_fault(realm, run, ran, seconds):
     """Waits for a lock of two seconds. One that stays is a hard error after ten, and neither file changes."""
-    files = [realm.texts.get(content(f"{run}/{TEXT}")), realm.databases.get(content(f"{run}/{DATABASE}"))]
+    files, end = realm.files(run), (ran.replies, len(ran.lines))
     if seconds < 10:
-        is_right = ran.replies == ["success"] and not ran.lines and files == ["1", "1"] and seconds - 0.5 < ran.seconds < seconds + AT_ONCE
+        is_right = end == (["success"], 0) and files == ("1", "1") and seconds - 0.5 < ran.seconds < seconds + AT_ONCE
     else:
-        is_right = ran.replies == ["hard error"] and len(ran.lines) == 1 and OF_LOCK.match(ran.lines[0]) and files == ["", ""] and 9 < ran.seconds < 20
+        is_right = end == (["hard error"], 1) and OF_LOCK.match(ran.lines[0]) and files == ("", "") and 9 < ran.seconds < 20
     return None if is_right else f"after {ran.seconds:.1f} seconds the files have the changes {files}: {ran.said()}"
 
 
