@@ -2,7 +2,7 @@
 # krb_kpasswdd over two requests to change a password. It is killed at each of its system calls, each of them fails with EIO and with
 # ENOSPC, each request for memory is refused, and it writes to full disks. After each run the text of accounts and its database are files
 # from before or after a change, whole, and the database is never ahead of the text. A reply tells a success only where both files have the
-# change. The next run changes a password at once, and then text and database agree. It waits for another run that has a lock, for ten
+# change. The next run changes a password, and then text and database agree. It waits for another run that has a lock, for ten
 # seconds at most.
 # Prints a line for each failure; the status is 1 where there is one, and 2 where a tool is missing.
 #
