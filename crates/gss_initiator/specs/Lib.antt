@@ -1,4 +1,5 @@
 pub mod Checksums
+pub mod Delegating
 pub mod Requests
 pub mod FirstTokens
 pub mod Initiating

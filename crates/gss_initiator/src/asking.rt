@@ -1,11 +1,14 @@
 //! Asking for a context.
-ghost use Rattle.std.specs.Prelude.{◌≡◌, ◌≤◌, length, Err, IfOk, Some};
+ghost use Rattle.std.specs.Prelude.{◌≡◌, ◌≤◌, ◌<◌, length, Err, IfOk, MatchResult, Some};
+ghost use Rattle.gss_initiator.specs.Checksums.{is_mutual};
+ghost use Rattle.gss_initiator.specs.Delegating.{delegating_checksum};
 ghost use Rattle.gss_initiator.specs.declared.refusal.InitiateRefusal.{InitiateRefusal};
 ghost use Rattle.gss_initiator.specs.FirstTokens.{ap_req_token, first_token, mechanisms, neg_init, neg_init_token};
-ghost use Rattle.gss_initiator.specs.Initiating.{Initiates, IsProgress, IsSent, SendsFirst, pending_of, progress_of, refusal_of, waits};
+ghost use Rattle.gss_initiator.specs.Initiating.{DelegatesFirst, Initiates, InitiatesDelegating, IsProgress, IsSent, IsUndelegated, SendsFirst, SendsWith, delegation_refusal, pending_of, progress_of, refusal_of, waits};
 ghost use Rattle.gss_initiator.specs.Requests.{own_subkey};
 
-use crate::checksum::is_beyond;
+use crate::checksum::{BEYOND, delegating_checksum, initial_checksum, is_beyond};
+use crate::delegating::{TOO_LONG, delegating, krb_cred};
 use crate::initiated::{Initiated, Pending, Progress, TokenForm};
 use crate::refusal::InitiateRefusal;
 use crate::request::context_request;
@@ -15,7 +18,9 @@ use gss_contexts::{ApplicationTag0, GssApiNegInit, MechTypeList, NegTokenInit};
 use krb_client::{ApAsked, Client, Credential, nonce_of};
 use krb_constants::gss_api::INITIAL_TOKEN;
 use krb_crypto::{CipherSuite, Key};
+use krb_messages::data_types::Checksum;
 use krb_messages::random_bytes::SUBKEY_SEED;
+use krb_tickets::flag_bits::FORWARDED;
 use krb_tickets::key_at;
 use krb_time::Moment;
 use picky_asn1::wrapper::{ObjectIdentifierAsn1, OctetStringAsn1};
@@ -54,6 +59,62 @@ pub fn initiate(
     }
 }
 
+/// Asks the credential's service for a context, as [`initiate`] does, and delegates the client's forwarded ticket to it (RFC 4121, section
+/// 4.1.1.1). The flag of delegation is set, whether `initial` has it or not. `forwarded`: a ticket-granting ticket with the flag forwarded,
+/// which the realm granted for this.
+///
+/// The service then acts as the client at any service, for as long as the ticket lasts. It has the ticket also if it establishes no
+/// context: who the acceptor is shows only its answer.
+///
+/// The refusals, in this order: `NotOffered`, `OldSuite`, `NotForwarded`, `LongDelegation`, `Memory`.
+pub fn initiate_delegating(
+    alloc: Global,
+    client: &Client,
+    credential: &Credential,
+    forwarded: &Credential,
+    initial: InitialChecksum,
+    form: TokenForm,
+    moment: Moment,
+    words: &[u8],
+) -> Result<Initiated, InitiateRefusal>
+    requires { 96 ≤ length words.now }
+    ensures made { InitiatesDelegating client.now credential.now forwarded.now initial form moment words.now result }
+
+    // Running out of memory hides no other refusal but `LongDelegation`.
+    ensures first { (refusal : InitiateRefusal) → delegation_refusal credential.now.suite initial.flags forwarded.now ≡ Some refusal → result ≡ Err refusal }
+{
+    if let Some(refusal) = delegation_refusal(credential.suite(), initial.flags, forwarded) {
+        return Err(refusal);
+    }
+    let own = delegating(initial);
+    match delegating_token(
+        alloc, client, credential, forwarded, own, form, moment, words,
+    ) {
+        Ok(token) => sent(alloc, token, credential, own.flags, form, moment, words),
+        Err(refusal) => Err(refusal),
+    }
+}
+
+/// Why [`initiate_delegating`] asks for no context with these flags, under a session key of this suite, with this ticket.
+pub fn delegation_refusal(
+    suite: CipherSuite,
+    flags: ContextFlags,
+    forwarded: &Credential,
+) -> Option<InitiateRefusal>
+    ensures { result ≡ delegation_refusal suite flags forwarded.now }
+{
+    if flags.0 >= BEYOND {
+        return Some(InitiateRefusal::NotOffered);
+    }
+    if suite == CipherSuite::Des3CbcSha1Kd {
+        return Some(InitiateRefusal::OldSuite);
+    }
+    if forwarded.flags().bit(FORWARDED) {
+        return None;
+    }
+    Some(InitiateRefusal::NotForwarded)
+}
+
 /// Why [`initiate`] asks for no context with these flags, under a session key of this suite.
 pub fn refusal_of(suite: CipherSuite, flags: ContextFlags) -> Option<InitiateRefusal>
     ensures { result ≡ refusal_of suite flags }
@@ -80,7 +141,100 @@ fn first_token(
     requires { 96 ≤ length words.now }
     ensures { IfOk result (λ token. SendsFirst client.now credential.now initial form moment words.now token.items) }
 {
-    let request = context_request(alloc, client, credential, initial, moment, words)?;
+    let checksum = initial_checksum(alloc, initial)?;
+    let wants_reply = initial.flags.is_set(MUTUAL);
+    token_with(
+        alloc,
+        client,
+        credential,
+        checksum,
+        wants_reply,
+        form,
+        moment,
+        words,
+    )
+}
+
+// The first token that delegates.
+fn delegating_token(
+    alloc: Global,
+    client: &Client,
+    credential: &Credential,
+    forwarded: &Credential,
+    initial: InitialChecksum,
+    form: TokenForm,
+    moment: Moment,
+    words: &[u8],
+) -> Result<Vec<u8>, InitiateRefusal>
+    requires { 96 ≤ length words.now }
+    ensures { MatchResult result
+        (λ token. DelegatesFirst client.now credential.now forwarded.now initial form moment words.now token.items)
+        (IsUndelegated client.now credential.now forwarded.now words.now) }
+{
+    let deleg = krb_cred(alloc, client, credential, forwarded, words)?;
+    if deleg.len() >= TOO_LONG {
+        return Err(InitiateRefusal::LongDelegation);
+    }
+    match summed_token(
+        alloc, client, credential, initial, &deleg, form, moment, words,
+    ) {
+        Ok(token) => Ok(token),
+        Err(_) => Err(InitiateRefusal::Memory),
+    }
+}
+
+// The first token with this delegation.
+fn summed_token(
+    alloc: Global,
+    client: &Client,
+    credential: &Credential,
+    initial: InitialChecksum,
+    deleg: &[u8],
+    form: TokenForm,
+    moment: Moment,
+    words: &[u8],
+) -> Result<Vec<u8>, AllocError>
+    requires fits { length deleg.now < 65536 }
+    requires enough { 96 ≤ length words.now }
+    ensures { IfOk result (λ token. SendsWith client.now credential.now (delegating_checksum initial deleg.now) (is_mutual initial.flags) form moment words.now token.items) }
+{
+    let checksum = delegating_checksum(alloc, initial, deleg)?;
+    let wants_reply = initial.flags.is_set(MUTUAL);
+    token_with(
+        alloc,
+        client,
+        credential,
+        checksum,
+        wants_reply,
+        form,
+        moment,
+        words,
+    )
+}
+
+// The first token whose authenticator has this checksum.
+fn token_with(
+    alloc: Global,
+    client: &Client,
+    credential: &Credential,
+    checksum: Checksum,
+    wants_reply: bool,
+    form: TokenForm,
+    moment: Moment,
+    words: &[u8],
+) -> Result<Vec<u8>, AllocError>
+    requires { 96 ≤ length words.now }
+    ensures { IfOk result (λ token. SendsWith client.now credential.now checksum wants_reply form moment words.now token.items) }
+{
+    let request = context_request(
+        alloc,
+        client,
+        credential,
+        checksum,
+        wants_reply,
+        moment,
+        words,
+    )?;
     token_of(alloc, form, &request)
 }
 

@@ -10,13 +10,21 @@ use thiserror::Error;
 /// Why no context is asked for, or none is established.
 #[derive(Clone, Copy, Debug, PartialEq, Eq, Error)]
 pub enum InitiateRefusal {
-    /// The flags ask for delegation, DCE style or another thing that isn't offered.
+    /// The flags ask for DCE style or another thing that isn't offered, or for delegation where no ticket is handed in.
     #[error("the flags ask for what isn't offered")]
     NotOffered,
 
     /// Triple DES, whose contexts have the tokens of RFC 1964.
     #[error("the suite has no tokens of RFC 4121")]
     OldSuite,
+
+    /// The ticket to hand on isn't a forwarded one (RFC 4120, section 2.6).
+    #[error("the ticket to hand on isn't a forwarded one")]
+    NotForwarded,
+
+    /// The KRB-CRED has more octets than the checksum's field Dlgth tells: 65536 and more (RFC 4121, section 4.1.1).
+    #[error("the ticket to hand on is too long")]
+    LongDelegation,
 
     /// The octets are no token that is due: none of Kerberos with an AP-REP or a KRB-ERROR, and no answer of SPNEGO with what it has to
     /// hold.

@@ -1,11 +1,8 @@
 //! The AP-REQ of a context (RFC 4121, section 4.1.1).
 ghost use Rattle.std.specs.Prelude.{◌≡◌, ◌≤◌, length, IfOk, Some};
 ghost use Rattle.krb_tickets.specs.Sealing.{encryption_key};
-ghost use Rattle.gss_initiator.specs.Requests.{AsksContext, IsContextAuthenticator, context_parts, own_subkey};
+ghost use Rattle.gss_initiator.specs.Requests.{AsksWith, IsAuthenticatorWith, context_parts, own_subkey};
 
-use crate::checksum::initial_checksum;
-use gss_acceptor::InitialChecksum;
-use gss_acceptor::context_flags::MUTUAL;
 use krb_client::{Client, Credential, ap_request_with, nonce_of};
 use krb_constants::key_usages::AP_REQ_AUTHENTICATOR;
 use krb_crypto::CipherSuite;
@@ -25,28 +22,28 @@ struct ContextParts {
     number: IntegerAsn1,
 }
 
-/// The AP-REQ that asks the credential's service for a context. `words`: random bytes, of which the first are the confounder, 16 to 19 the
+/// The AP-REQ that asks the credential's service for a context, with this checksum of the authenticator. `words`: random bytes, of which the first are the confounder, 16 to 19 the
 /// sequence number, and 32 to 63 the subkey's seed.
 pub(crate) fn context_request(
     alloc: Global,
     client: &Client,
     credential: &Credential,
-    initial: InitialChecksum,
+    checksum: Checksum,
+    wants_reply: bool,
     moment: Moment,
     words: &[u8],
 ) -> Result<Vec<u8>, AllocError>
     requires { 96 ≤ length words.now }
-    ensures { IfOk result (λ bytes. AsksContext client.now credential.now initial moment words.now bytes.items) }
+    ensures { IfOk result (λ bytes. AsksWith client.now credential.now checksum wants_reply moment words.now bytes.items) }
 {
     let suite = credential.suite();
-    let authenticator = context_authenticator(alloc, client, credential, initial, moment, words)?;
+    let authenticator = context_authenticator(alloc, client, credential, checksum, moment, words)?;
     let confounder = confounder_at(suite, words, AUTHENTICATOR_CONFOUNDER);
-    let mutual = initial.flags.is_set(MUTUAL);
     let bytes = ap_request_with(
         alloc,
         credential,
         AP_REQ_AUTHENTICATOR,
-        mutual,
+        wants_reply,
         authenticator,
         confounder,
     )?;
@@ -58,14 +55,14 @@ fn context_authenticator(
     alloc: Global,
     client: &Client,
     credential: &Credential,
-    initial: InitialChecksum,
+    checksum: Checksum,
     moment: Moment,
     words: &[u8],
 ) -> Result<AuthenticatorInner, AllocError>
     requires { 96 ≤ length words.now }
-    ensures { IfOk result (IsContextAuthenticator client.now credential.now initial moment words.now) }
+    ensures { IfOk result (IsAuthenticatorWith client.now credential.now checksum moment words.now) }
 {
-    let parts = context_parts(alloc, credential.suite(), initial, words)?;
+    let parts = context_parts(alloc, credential.suite(), checksum, words)?;
     let ContextParts {
         checksum,
         subkey,
@@ -79,16 +76,15 @@ fn context_authenticator(
 fn context_parts(
     alloc: Global,
     suite: CipherSuite,
-    initial: InitialChecksum,
+    checksum: Checksum,
     words: &[u8],
 ) -> Result<ContextParts, AllocError>
     requires { 96 ≤ length words.now }
-    ensures { IfOk result (λ parts. parts ≡ context_parts suite initial words.now) }
+    ensures { IfOk result (λ parts. parts ≡ context_parts suite checksum words.now) }
 {
-    let checksum = initial_checksum(alloc, initial);
     let subkey = subkey_at(alloc, suite, words);
     let number = IntegerAsn1::from_u64(alloc, u64::from(nonce_of(words)));
-    let (checksum, (subkey, number)) = both(checksum, both(subkey, number))?;
+    let (checksum, (subkey, number)) = both(Ok(checksum), both(subkey, number))?;
     Ok(ContextParts {
         checksum,
         subkey,
