@@ -9,6 +9,7 @@ mod WrittenTokens
 mod Admitted
 mod Accepted
 mod Undelegated
+mod HandedOut
 mod Replied
 mod OneContext
 mod Negotiated

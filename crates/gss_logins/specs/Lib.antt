@@ -1,5 +1,6 @@
 pub mod GssLogins
 pub mod Honest
+pub mod Delegations
 pub mod OneContext
 pub mod Granted
 pub mod Carried

@@ -1,5 +1,5 @@
 //! The laws of both ends of a context. Each is a function that does nothing when it runs: its contract is the law.
-ghost use Rattle.std.specs.Prelude.{◌≡◌, ◌<◌, List, ℕ, Ok, Result, true};
+ghost use Rattle.std.specs.Prelude.{◌≡◌, ◌<◌, List, ℕ, length, Ok, Result, true};
 ghost use Rattle.krb_client.specs.Client.{ClientRecord, CredentialRecord};
 ghost use Rattle.krb_kdc_exchanges.specs.declared.span.Span.{Span};
 ghost use Rattle.krb_service.specs.Pair.{PairRecord};
@@ -31,6 +31,8 @@ ghost use Rattle.gss_initiator.specs.Taking.{TakenRecord};
 ghost use Rattle.gss_initiator.specs.declared.initiated.Pending.{Pending};
 ghost use Rattle.gss_logins.specs.AnsweredEnds.{IsAnswerUnforged, IsAnsweredEnd};
 ghost use Rattle.gss_logins.specs.Carried.{Carries, IsAskedContext, IsAuthenticAfter, IsAuthenticContext, IsMessageUnforged, IsToAdmit, IsToVerify};
+ghost use Rattle.gss_initiator.specs.Delegating.{HandsOn};
+ghost use Rattle.gss_logins.specs.Delegations.{CanDelegate, IsHandedOut};
 ghost use Rattle.gss_logins.specs.Granted.{IsContextAsked, IsHonestGssLogin, IsRemembered, gss_login_of};
 ghost use Rattle.gss_logins.specs.GssLogins.{GssLogin};
 ghost use Rattle.gss_logins.specs.Honest.{IsAnswering, IsHonest};
@@ -55,6 +57,14 @@ pub fn one_context()
 pub fn one_negotiated_context()
     ensures { (login : GssLogin) (result : Result InitiatedRecord InitiateRefusal) → IsHonest login
         → Initiates login.client login.credential login.initial Negotiated login.client_at login.words result → EndsInOneContext login result }
+{}
+
+/// What an initiator delegates is what the acceptor has of it: the acceptor reads the bindings and the flags, with that of delegation, and
+/// hands out the ticket and what the initiator told of it. Both have one session key.
+pub fn delegated_is_handed_out()
+    ensures { (client : ClientRecord) (credential forwarded : CredentialRecord) (initial : InitialChecksum) (words deleg : List ℕ)
+        → CanDelegate client credential forwarded initial → HandsOn client credential forwarded words deleg → length deleg < 65536
+        → IsHandedOut client credential forwarded initial deleg }
 {}
 
 /// What an honest login grants its client makes a login by GSS honest, whatever the client asks for that is offered. So the laws

@@ -10,7 +10,7 @@
 //! `context_was_asked`). That of an initiator that asked for mutual authentication is made by the AP-REP of a service that opened the ticket
 //! and admitted a request of its session and time (law `end_was_answered`). What an end unwraps an end on the other side wrapped (law
 //! `unwrapped_was_wrapped`). What an initiator sends is a request of the client, as the laws of `krb_authenticity` take it (law
-//! `context_request_is_sent`).
+//! `context_request_is_sent`). What an initiator delegates the acceptor hands out, as it was told (law `delegated_is_handed_out`).
 #![tactic(auto)]
 
 mod honest;
