@@ -10,9 +10,9 @@ Run it in this folder: python3 initiators.py
 import hashlib
 
 from first_tokens import (
-    ACCEPT_COMPLETED, ACCEPT_INCOMPLETE, CLIENT, KRB5, MS_KRB5, MUTUAL_REQUIRED, NTLM, REALM, REJECT, REQUEST_MIC, SERVICE, TOKEN_ID_AP_REP,
-    TOKEN_ID_AP_REQ, application, bits, changed, checksum, der, encrypted, integer, key_of, mech_types, name, negotiated, octet_string, oid,
-    response, sequence, text,
+    ACCEPT_COMPLETED, ACCEPT_INCOMPLETE, CLIENT, KRB5, KRBTGT, MS_KRB5, MUTUAL_REQUIRED, NTLM, REALM, REJECT, REQUEST_MIC, SERVICE,
+    TOKEN_ID_AP_REP, TOKEN_ID_AP_REQ, application, bits, changed, checksum, der, encrypted, generalized, integer, key_of, mech_types, name,
+    negotiated, octet_string, oid, response, sequence, text,
 )
 from tokens import ACCEPTOR, INITIATOR, KEY_SIZES, SUITES, Writer, check_against_the_standards, octets
 
@@ -42,11 +42,12 @@ def bindings_of(data):
 
 class Asking:
     """An initiator that asks for a context. Of its 96 random octets the first 16 are the confounder, 31 bits of the next four the first
-    sequence number, and the subkey's seed begins at 32."""
+    sequence number, and the subkey's seed begins at 32. `hands_on`: a forwarded ticket of this size that it delegates, with its key's suite and
+    its flags. The KRB-CRED's confounder begins at 64."""
 
     count = 0
 
-    def __init__(self, suite, flags=FLAGS, bindings=None, form="Bare", time=NOW):
+    def __init__(self, suite, flags=FLAGS, bindings=None, form="Bare", time=NOW, hands_on=None):
         Asking.count += 1
         self.suite, self.flags, self.bindings, self.form, self.time = suite, flags, bindings, form, time
         self.words = octets(f"initiator's words {Asking.count}", 96)
@@ -57,8 +58,30 @@ class Asking:
         sealed = sequence((0, integer(suite)), (1, integer(1)), (2, octet_string(octets(f"ticket {Asking.count}", 60))))
         self.ticket = application(1, (0, integer(5)), (1, text(REALM)), (2, name(*SERVICE)), (3, sealed))
 
+        self.hands_on = hands_on
+        if hands_on:
+            size, kind, _ = hands_on
+            sealed = sequence((0, integer(kind)), (1, integer(1)), (2, octet_string(octets(f"forwarded {Asking.count}", size))))
+            self.forwarded = application(1, (0, integer(5)), (1, text(REALM)), (2, name(*KRBTGT)), (3, sealed))
+            self.forwarded_key = octets(f"forwarded key {Asking.count}", KEY_SIZES[kind])
+
+    def krb_cred(self):
+        """The KRB-CRED, whose ticket's times are all those of initiate.rt."""
+        _, kind, flags = self.hands_on
+        time = generalized("20260101110000Z")
+        info = sequence(
+            (0, key_of(kind, self.forwarded_key)), (1, text(REALM)), (2, name(*CLIENT)), (3, bits(flags)), (4, time), (5, time), (6, time),
+            (8, text(REALM)), (9, name(*KRBTGT)),
+        )
+        sealed = encrypted(self.suite, self.session, 14, self.words[64:80], application(29, (0, der(0x30, info))))
+        return application(22, (0, integer(5)), (1, integer(22)), (2, der(0x30, self.forwarded)), (3, sealed))
+
     def ap_req(self):
-        initial = (16).to_bytes(4, "little") + bindings_of(self.bindings) + self.flags.to_bytes(4, "little")
+        flags = self.flags | 1 if self.hands_on else self.flags
+        initial = (16).to_bytes(4, "little") + bindings_of(self.bindings) + flags.to_bytes(4, "little")
+        if self.hands_on:
+            cred = self.krb_cred()
+            initial += b"\1\0" + len(cred).to_bytes(2, "little") + cred
         own = application(
             2, (0, integer(5)), (1, text(REALM)), (2, name(*CLIENT)), (3, checksum(0x8003, initial)), (4, integer(0)), (5, der(0x18, self.time.encode())),
             (6, key_of(self.suite, self.subkey)), (7, integer(self.number)),
@@ -72,9 +95,11 @@ class Asking:
         return token if self.form == "Bare" else negotiated(token, KRB5)
 
     def initiate(self, outcome):
-        token = b"" if outcome in ("NotOffered", "OldSuite") else self.token()
+        token = b"" if outcome in ("NotOffered", "OldSuite", "NotForwarded", "LongDelegation") else self.token()
         bindings = "none" if self.bindings is None else shown(self.bindings)
-        lines.append(f"initiate {outcome} {self.suite} {self.flags} {self.form} {self.time} {bindings} | {self.session.hex()} {self.ticket.hex()} {self.words.hex()} {shown(token)}")
+        further = f" {self.forwarded.hex()} {self.forwarded_key.hex()}" if self.hands_on else ""
+        call = f"delegate {outcome} {self.hands_on[1]} {self.hands_on[2]}" if self.hands_on else f"initiate {outcome}"
+        lines.append(f"{call} {self.suite} {self.flags} {self.form} {self.time} {bindings} | {self.session.hex()} {self.ticket.hex()} {self.words.hex()} {shown(token)}{further}")
 
     def reply(self, time=None, micros=0, subkey=None, number=None, key=None, usage=12, version=5, kind=15):
         """The AP-REP's token. It can be told to deviate. `subkey`: the acceptor's, as its suite and its octets."""
@@ -250,12 +275,43 @@ def refused_answers(suite):
         talk(asking, first)
 
 
+FORWARDED = 1 << 29
+
+
+def delegations(suite):
+    section("An initiator that delegates a forwarded ticket, also where its flags have that of delegation. The suites of both keys may differ.")
+    for flags, form, kind in (FLAGS, "Bare", suite), (FLAGS, "Negotiated", 18), (FLAGS | 1, "Bare", 19), (ALONE, "Bare", 17):
+        asking = Asking(suite, flags=flags, form=form, bindings=b"bound", hands_on=(60, kind, FORWARDED | 1 << 23))
+        if flags == ALONE:
+            asking.initiate("Established")
+            talk(asking, asking.number)
+            continue
+        asking.initiate("ContinueNeeded")
+        if form == "Bare":
+            take("ok", asking.reply())
+            talk(asking, 0)
+
+
+def refused_delegations(suite):
+    section("A ticket that isn't a forwarded one; flags that aren't offered; and the first ticket that Dlgth is too short for.")
+    Asking(suite, hands_on=(60, suite, 0)).initiate("NotForwarded")
+    Asking(suite, hands_on=(60, suite, 0xFFFFFFFF & ~FORWARDED)).initiate("NotForwarded")
+    for flags in 64, FLAGS | 0x1000, 2**32 - 1:
+        Asking(suite, flags=flags, hands_on=(60, suite, 0)).initiate("NotOffered")
+    Asking(16, hands_on=(60, suite, FORWARDED)).initiate("OldSuite")
+    fits = 65535 - (len(Asking(suite, hands_on=(65000, suite, FORWARDED)).krb_cred()) - 65000)
+    Asking(suite, flags=ALONE, hands_on=(fits, suite, FORWARDED)).initiate("Established")
+    Asking(suite, flags=ALONE, hands_on=(fits + 1, suite, FORWARDED)).initiate("LongDelegation")
+
+
 HEAD = """\
 # First tokens of initiators, and what becomes of the answers to them. Written by initiators.py in this folder, an independent writer by
 # RFC 4120, RFC 4121 and RFC 4178. The client is user/admin@EXAMPLE.COM. Further lines are those of tokens.txt, of the context that was
 # established last.
 #   initiate EXPECTED SUITE FLAGS FORM MOMENT BINDINGS | SESSION-KEY TICKET WORDS TOKEN   a first token; BINDINGS are the application data,
 #                                                       `-` for no octets of it, `none` for no channel bindings
+#   delegate EXPECTED FORWARDED-SUITE FORWARDED-FLAGS SUITE .. BINDINGS | SESSION-KEY .. TOKEN FORWARDED FORWARDED-KEY   the same with a
+#                                                       forwarded ticket that is delegated, its flags, and its key with its suite
 #   take EXPECTED | ANSWER REPLY                        the answer that the initiator waits for, and the last token to send
 #   take Refused | ..                                   where EXPECTED has the code of the KRB-ERROR
 #   take Mic | ..                                       where EXPECTED has what is wrong with the MIC
@@ -269,6 +325,9 @@ def main():
         established(suite)
     refused(18)
     refused_answers(18)
+    for suite in SUITES:
+        delegations(suite)
+    refused_delegations(18)
     with open("initiators.txt", "w", encoding="ascii") as file:
         file.write(HEAD + "\n" + "\n".join(lines) + "\n")
     print(sum(not line.startswith("#") for line in lines), "lines")

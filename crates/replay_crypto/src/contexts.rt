@@ -67,6 +67,7 @@ impl Rows for Ends {
             "accept" | "resume" => accept::accepts(alloc, self, &call),
             "delegated" => accept::delegates(alloc, self, &call),
             "initiate" => initiate::initiates(alloc, self, &call),
+            "delegate" => initiate::delegates(alloc, self, &call),
             "take" => initiate::takes(alloc, self, &call),
             _ => match &mut self.context {
                 Some(context) => Ok(calls_as_expected(alloc, context, &call)),

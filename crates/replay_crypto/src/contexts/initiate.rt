@@ -1,5 +1,6 @@
-//! Lines of an initiator: `initiate EXPECTED SUITE FLAGS FORM MOMENT BINDINGS | SESSION-KEY TICKET WORDS TOKEN` of a first token, and
-//! `take EXPECTED | ANSWER REPLY` of the answer to it.
+//! Lines of an initiator: `initiate EXPECTED SUITE FLAGS FORM MOMENT BINDINGS | SESSION-KEY TICKET WORDS TOKEN` of a first token, `delegate
+//! EXPECTED FORWARDED-SUITE FORWARDED-FLAGS SUITE .. | SESSION-KEY .. TOKEN FORWARDED FORWARDED-KEY` of one that delegates a ticket, and `take
+//! EXPECTED | ANSWER REPLY` of the answer to it.
 ghost use Rattle.std.specs.Prelude.{◌≤◌, length};
 
 use super::call::{Call, suite_of};
@@ -8,7 +9,7 @@ use anyhow::{Context, bail};
 use gss_acceptor::{ContextFlags, InitialChecksum};
 use gss_initiator::{
     InitiateRefusal, Initiated, NO_BINDINGS, Progress, RefusedAnswer, Taken, TokenForm,
-    bindings_of, initiate,
+    bindings_of, initiate, initiate_delegating,
 };
 use krb_client::{Client, Credential, TicketTimes};
 use krb_crypto::{CipherSuite, Key};
@@ -37,12 +38,55 @@ pub(crate) fn initiates(alloc: Global, ends: &mut Ends, row: &Call<'_>) -> anyho
     if words.len() < 96 {
         bail!("too few random octets");
     }
-    let choice = choice_of(alloc, row)?;
-    let credential = credential_of(alloc, choice.suite, session, ticket)?;
+    let choice = choice_in(alloc, row.words)?;
+    let credential = credential_of(alloc, choice.suite, 0, session, ticket)?;
     match initiated(alloc, choice, &credential, words) {
         Ok(initiated) => Ok(is_sent(ends, row, initiated, token)),
         Err(refusal) => Ok(is_named(alloc, &refusal, row.expected)),
     }
+}
+
+/// Asks for a context with a delegation, likewise.
+pub(crate) fn delegates(alloc: Global, ends: &mut Ends, row: &Call<'_>) -> anyhow::Result<bool> {
+    let [session, ticket, words, token, forwarded, key] = row.columns.as_slice() else {
+        bail!("a line `delegate` of another shape");
+    };
+    if words.len() < 96 {
+        bail!("too few random octets");
+    }
+    let mut ahead = row.words;
+    let (suite, flags) = (suite_of(&mut ahead), ahead.number::<u32>());
+    let choice = choice_in(alloc, ahead)?;
+    let credential = credential_of(alloc, choice.suite, 0, session, ticket)?;
+    let forwarded = credential_of(alloc, suite, flags, key, forwarded)?;
+    match delegated(alloc, choice, &credential, &forwarded, words) {
+        Ok(initiated) => Ok(is_sent(ends, row, initiated, token)),
+        Err(refusal) => Ok(is_named(alloc, &refusal, row.expected)),
+    }
+}
+
+/// Asks for the context of a choice, and delegates this ticket.
+fn delegated(
+    alloc: Global,
+    choice: Choice,
+    credential: &Credential,
+    forwarded: &Credential,
+    words: &[u8],
+) -> Result<Initiated, InitiateRefusal>
+    requires { 96 ≤ length words.now }
+{
+    let Ok(client) = client_of(alloc, choice.suite) else {
+        return Err(InitiateRefusal::Memory);
+    };
+    let Choice {
+        initial,
+        form,
+        moment,
+        ..
+    } = choice;
+    initiate_delegating(
+        alloc, &client, credential, forwarded, initial, form, moment, words,
+    )
 }
 
 /// Asks for the context of a choice, as the client user/admin@EXAMPLE.COM.
@@ -72,17 +116,18 @@ fn client_of(alloc: Global, suite: CipherSuite) -> anyhow::Result<Client> {
     Ok(Client::new(alloc, b"EXAMPLE.COM", &name, suite)?)
 }
 
-/// The credential of this ticket and session key. Its names are the ticket's; its times and flags don't count.
+/// The credential of this ticket and session key, with these flags. Its names are the ticket's, and its times one second.
 fn credential_of(
     alloc: Global,
     suite: CipherSuite,
+    flags: u32,
     session: &[u8],
     ticket: &[u8],
 ) -> anyhow::Result<Credential> {
     let moment = Moment::from_text(b"20260101110000Z").context("no moment")?;
     let key = Key::new(suite, session)?;
     let ticket: Ticket = from_bytes(alloc, ticket)?;
-    let credential = credential_with(alloc, ticket, key, moment.second())?;
+    let credential = credential_with(alloc, ticket, key, flags, moment.second())?;
     Ok(credential)
 }
 
@@ -91,12 +136,13 @@ fn credential_with(
     alloc: Global,
     ticket: Ticket,
     key: Key,
+    flags: u32,
     second: GeneralizedTime,
 ) -> Result<Credential, AllocError> {
     let realm: Result<_, AllocError> = ticket.0.realm.0.clone();
     let service: Result<_, AllocError> = ticket.0.sname.0.clone();
     let names = both(realm, service);
-    let rest = both(no_flags(alloc), Ok((ticket, key)));
+    let rest = both(flags_of(alloc, flags), Ok((ticket, key)));
     let ((realm, service), (flags, (ticket, key))) = both(names, rest)?;
     let times = TicketTimes {
         authtime: second,
@@ -107,17 +153,17 @@ fn credential_with(
     Ok(Credential::new(ticket, key, realm, service, times, flags))
 }
 
-/// No flag.
-fn no_flags(alloc: Global) -> Result<KerberosFlags, AllocError> {
-    match BitStringAsn1::new(alloc, &[0; 4], 0) {
+/// Flags of 32 bits.
+fn flags_of(alloc: Global, flags: u32) -> Result<KerberosFlags, AllocError> {
+    match BitStringAsn1::new(alloc, &flags.to_be_bytes(), 0) {
         Ok(flags) => Ok(flags),
         Err(_) => Err(AllocError),
     }
 }
 
 /// What a line chooses: suite, flags, form, moment and channel bindings.
-fn choice_of(alloc: Global, row: &Call<'_>) -> anyhow::Result<Choice> {
-    let mut words = row.words;
+fn choice_in(alloc: Global, words: Row<'_>) -> anyhow::Result<Choice> {
+    let mut words = words;
     let (suite, flags) = (suite_of(&mut words), words.number::<u32>());
     let form = form_of(words.word());
     let moment = Moment::from_text(words.word().as_bytes()).context("no moment")?;
