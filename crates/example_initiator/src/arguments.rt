@@ -9,7 +9,7 @@ use picky_asn1_der::both;
 use std::alloc::Global;
 
 /// The options.
-const OPTIONS: [&str; 7] = ["-c", "-f", "-m", "-p", "-b", "-r", "-t"];
+const OPTIONS: [&str; 8] = ["-c", "-f", "-m", "-p", "-b", "-d", "-r", "-t"];
 
 /// The random octets, if no file is given.
 const WORDS: &str = "/dev/urandom";
@@ -39,6 +39,8 @@ pub(crate) struct Settings<'a> {
     /// The path of the cache.
     pub(crate) cache: &'a str,
     pub(crate) choice: Choice,
+    /// Whether the cache's forwarded ticket-granting ticket is delegated.
+    pub(crate) delegates: bool,
     /// The path of the random octets.
     pub(crate) words: &'a str,
     /// The moment of the request, if it isn't the clock's.
@@ -101,10 +103,12 @@ fn words_of<'a>(alloc: Global, words: &[&'a str]) -> Result<Words<'a>, Stop> {
 fn settings_of<'a>(alloc: Global, given: &Given<'a>) -> Result<Settings<'a>, Stop> {
     let first = both(cache_of(alloc, given), choice_of(alloc, given));
     let last = both(given.value(alloc, "-r"), given.moment(alloc, "-t"));
-    let ((cache, choice), (words, moment)) = both(first, last)?;
+    let last = both(answer_of(alloc, given, "-d", false), last);
+    let ((cache, choice), (delegates, (words, moment))) = both(first, last)?;
     Ok(Settings {
         cache,
         choice,
+        delegates,
         words: words.unwrap_or(WORDS),
         moment,
     })
@@ -119,7 +123,7 @@ fn cache_of<'a>(alloc: Global, given: &Given<'a>) -> Result<&'a str, Stop> {
 }
 
 fn choice_of(alloc: Global, given: &Given<'_>) -> Result<Choice, Stop> {
-    let first = both(form_of(alloc, given), is_mutual_by(alloc, given));
+    let first = both(form_of(alloc, given), answer_of(alloc, given, "-m", true));
     let last = both(protection_of(alloc, given), hash_of(alloc, given));
     let ((form, is_mutual), (protection, bindings)) = both(first, last)?;
     Ok(Choice {
@@ -138,11 +142,18 @@ fn form_of(alloc: Global, given: &Given<'_>) -> Result<TokenForm, Stop> {
     }
 }
 
-fn is_mutual_by(alloc: Global, given: &Given<'_>) -> Result<bool, Stop> {
-    match given.value(alloc, "-m")? {
-        None | Some("yes") => Ok(true),
+// Whether the answer of an option is yes.
+fn answer_of(
+    alloc: Global,
+    given: &Given<'_>,
+    option: &str,
+    otherwise: bool,
+) -> Result<bool, Stop> {
+    match given.value(alloc, option)? {
+        None => Ok(otherwise),
+        Some("yes") => Ok(true),
         Some("no") => Ok(false),
-        Some(_) => Err(usage(alloc, "-m: expected yes or no")),
+        Some(_) => Err(usage(alloc, format_args!("{option}: expected yes or no"))),
     }
 }
 

@@ -44,6 +44,7 @@ const USAGE: &str = "usage:
   -m MUTUAL   whether the service has to authenticate itself: yes, if it isn't given, or no
   -p HOW      how a message goes: sealed (encrypted), if it isn't given, checksum (which follows it), or bare
   -b DATA     channel bindings of this application data
+  -d DELEGATE whether the cache's forwarded ticket-granting ticket is delegated to the service: no, if it isn't given, or yes
   -r WORDS    a file of random octets: /dev/urandom if it isn't given
   -t TIME     the time of the request (UTC), as 20261128040000Z: the clock's if it isn't given
 Frames go to standard output and come from standard input. So socat TCP:SERVER:4444 EXEC:'example_initiator talk ..' is the client.";

@@ -8,20 +8,26 @@ use krb_file_formats::{
     CacheFault, CachePrincipal, CachedCredential, CredentialCache, CredentialTimes,
 };
 use krb_messages::data_types::{KerberosFlags, PrincipalName, Ticket};
+use krb_messages::krbtgt;
 use krb_time::after_epoch;
 use picky_asn1::date::GeneralizedTime;
 use picky_asn1::wrapper::GeneralStringAsn1;
 use picky_asn1_der::{both, read_whole};
 use std::alloc::{AllocError, Global};
 
+/// The flag forwarded (RFC 4120, section 5.3).
+const FORWARDED: u32 = 0x8000_0000 >> 2;
+
 /// A client, with its credential for a service.
 #[derive(Drop)]
 pub(crate) struct Party {
     pub(crate) client: Client,
     pub(crate) credential: Credential,
+    /// The forwarded ticket-granting ticket that is delegated, if one is.
+    pub(crate) forwarded: Option<Credential>,
 }
 
-/// The client of the cache, with its first credential for the service.
+/// The client of the cache, with its first credential for the service, and with what is delegated.
 pub(crate) fn party_in(rt: &HostRuntime, asked: &Asked<'_>) -> Result<Party, Stop> {
     let cache = cache_in(rt, asked.settings.cache)?;
     let party = party_of(rt.alloc(), &cache, asked);
@@ -43,7 +49,7 @@ fn party_of(alloc: Global, cache: &CredentialCache, asked: &Asked<'_>) -> Result
     let credential = credential_in(alloc, cache, asked);
     let (client, credential) = both(client, credential)?;
     match (client, credential) {
-        (Some(client), Some(credential)) => Ok(Party { client, credential }),
+        (Some(client), Some(credential)) => with_forwarded(alloc, cache, asked, client, credential),
         _ => Err(refused(
             alloc,
             format_args!(
@@ -51,6 +57,72 @@ fn party_of(alloc: Global, cache: &CredentialCache, asked: &Asked<'_>) -> Result
                 asked.settings.cache, asked.service.argument
             ),
         )),
+    }
+}
+
+// The client and its credential, with the ticket that is delegated, if that is asked for.
+fn with_forwarded(
+    alloc: Global,
+    cache: &CredentialCache,
+    asked: &Asked<'_>,
+    client: Client,
+    credential: Credential,
+) -> Result<Party, Stop> {
+    match delegated_in(alloc, cache, asked) {
+        Ok(forwarded) => Ok(Party {
+            client,
+            credential,
+            forwarded,
+        }),
+        Err(stop) => {
+            drop(client);
+            drop(credential);
+            Err(stop)
+        }
+    }
+}
+
+// The ticket that is delegated, if that is asked for.
+fn delegated_in(
+    alloc: Global,
+    cache: &CredentialCache,
+    asked: &Asked<'_>,
+) -> Result<Option<Credential>, Stop> {
+    if !asked.settings.delegates {
+        return Ok(None);
+    }
+    match forwarded_in(alloc, cache)? {
+        Some(forwarded) => Ok(Some(forwarded)),
+        None => Err(refused(
+            alloc,
+            format_args!(
+                "{}: expected a forwarded ticket-granting ticket and a key of a known etype",
+                asked.settings.cache
+            ),
+        )),
+    }
+}
+
+// The first forwarded ticket-granting ticket of the client's realm, if it is one that can be used.
+fn forwarded_in(alloc: Global, cache: &CredentialCache) -> Result<Option<Credential>, AllocError> {
+    for credential in &cache.credentials {
+        if is_granting(credential) && credential.flags & FORWARDED != 0 {
+            return credential_of(alloc, credential);
+        }
+    }
+    Ok(None)
+}
+
+// Whether the ticket is for the ticket-granting service of the client's realm (RFC 4120, section 7.3).
+fn is_granting(credential: &CachedCredential) -> bool {
+    let realm = credential.client.realm.as_bytes();
+    match credential.server.components.as_slice() {
+        [first, second] => {
+            first.as_bytes() == krbtgt()
+                && second.as_bytes() == realm
+                && credential.server.realm.as_bytes() == realm
+        }
+        _ => false,
     }
 }
 

@@ -1,12 +1,16 @@
 //! The tokens of a context.
+ghost use Rattle.std.specs.Prelude.{◌≤◌, length};
 
 use crate::arguments::{Asked, Choice};
 use crate::party::Party;
 use gss_acceptor::context_flags::{CONFIDENTIALITY, INTEGRITY, MUTUAL, REPLAY, SEQUENCE};
 use gss_acceptor::{ContextFlags, InitialChecksum};
 use gss_contexts::{Context, TokenRefusal};
-use gss_initiator::{InitiateRefusal, Initiated, Pending, RefusedAnswer, Taken, initiate};
+use gss_initiator::{
+    InitiateRefusal, Initiated, Pending, RefusedAnswer, Taken, initiate, initiate_delegating,
+};
 use krb_commands::{RandomFile, Stop, moment_or_now, refused};
+use krb_time::Moment;
 use std::alloc::Global;
 
 /// The first token of a context with the service.
@@ -18,18 +22,34 @@ pub(crate) fn first_token(
 ) -> Result<Initiated, Stop> {
     let moment = moment_or_now(rt, asked.settings.moment)?;
     let words = random.take_words(rt.alloc(), "token")?;
-    let initiated = initiate(
-        rt.alloc(),
-        &party.client,
-        &party.credential,
-        initial_of(&asked.settings.choice),
-        asked.settings.choice.form,
-        moment,
-        &words,
-    );
-    match initiated {
+    match initiated(rt.alloc(), asked, party, moment, &words) {
         Ok(initiated) => Ok(initiated),
         Err(refusal) => Err(stop_of_login(rt.alloc(), asked.service.argument, refusal)),
+    }
+}
+
+// Asks for the context, and delegates the party's forwarded ticket, if it has one.
+fn initiated(
+    alloc: Global,
+    asked: &Asked<'_>,
+    party: &Party,
+    moment: Moment,
+    words: &[u8],
+) -> Result<Initiated, InitiateRefusal>
+    requires { 96 ≤ length words.now }
+{
+    let Party {
+        client,
+        credential,
+        forwarded,
+    } = party;
+    let choice = &asked.settings.choice;
+    let (initial, form) = (initial_of(choice), choice.form);
+    match forwarded {
+        Some(forwarded) => initiate_delegating(
+            alloc, client, credential, forwarded, initial, form, moment, words,
+        ),
+        None => initiate(alloc, client, credential, initial, form, moment, words),
     }
 }
 
