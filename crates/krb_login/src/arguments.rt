@@ -201,12 +201,23 @@ pub(crate) fn login_of<'a>(
     rt: &HostRuntime,
     arguments: &'a Arguments,
 ) -> Result<(Login<'a>, Means<'a>), Stop> {
-    let given = given_of(rt.alloc(), &OPTIONS, arguments.words.as_slice())?;
-    let means = means_of(rt.alloc(), &given)?;
-    let settings = settings_of(rt.alloc(), &given, arguments.flags)?;
-    let (cache, user) = both(cache_of(rt, &given), user_of(rt, &given))?;
+    let alloc = rt.alloc();
+    let given = given_of(alloc, &OPTIONS, arguments.words.as_slice())?;
+    let settings = settings_of(alloc, &given, arguments.flags);
+    let asked = both(means_of(alloc, &given), settings);
+    let files = both(cache_of(rt, &given), chosen_of(alloc, &given));
+    let (((means, settings), files), user) = both(both(asked, files), user_of(rt, &given))?;
+    let services = services_of(alloc, &user.client, &given);
+    let ((user, (cache, chosen)), services) = both(Ok((user, files)), services)?;
     let read = files_read(means, settings.words);
-    let login = login_by(rt.alloc(), &given, settings, cache, user, read)?;
+    let login = Login {
+        user,
+        services,
+        cache,
+        chosen,
+        read,
+        settings,
+    };
     Ok((login, means))
 }
 
@@ -215,24 +226,28 @@ pub(crate) fn renewal_of<'a>(
     rt: &HostRuntime,
     arguments: &'a Arguments,
 ) -> Result<(Login<'a>, Credential), Stop> {
-    let given = given_of(rt.alloc(), &OPTIONS, arguments.words.as_slice())?;
-    is_renewal(rt.alloc(), &given, arguments.flags)?;
-    let settings = settings_of(rt.alloc(), &given, arguments.flags)?;
-    let cache = cache_of(rt, &given)?;
+    let alloc = rt.alloc();
+    let given = given_of(alloc, &OPTIONS, arguments.words.as_slice())?;
+    is_renewal(alloc, &given, arguments.flags)?;
+    let settings = settings_of(alloc, &given, arguments.flags);
+    let files = both(cache_of(rt, &given), chosen_of(alloc, &given));
+    let (settings, (cache, chosen)) = both(settings, files)?;
     let Held { client, credential } = held_in(rt, cache.as_str())?;
-    let user = User {
-        argument: RENEWED,
-        client,
-    };
-    let login = login_by(
-        rt.alloc(),
-        &given,
-        settings,
+    let services = services_of(alloc, &client, &given);
+    let ((client, credential), services) = both(Ok((client, credential)), services)?;
+    let words = settings.words;
+    let login = Login {
+        user: User {
+            argument: RENEWED,
+            client,
+        },
+        services,
         cache,
-        user,
-        [settings.words; 4],
-    );
-    both(login, Ok(credential))
+        chosen,
+        read: [words; 4],
+        settings,
+    };
+    Ok((login, credential))
 }
 
 // Whether nothing is given that a renewal can't have: it has the user and the flags of the cache's ticket.
@@ -248,27 +263,6 @@ fn is_renewal(alloc: Global, given: &Given<'_>, flags: Flags) -> Result<(), Stop
         ));
     }
     Ok(())
-}
-
-fn login_by<'a>(
-    alloc: Global,
-    given: &Given<'a>,
-    settings: Settings<'a>,
-    cache: String,
-    user: User<'a>,
-    read: [&'a str; 4],
-) -> Result<Login<'a>, Stop> {
-    let chosen = chosen_of(alloc, given);
-    let services = services_of(alloc, &user.client, given);
-    let ((user, cache), (chosen, services)) = both(Ok((user, cache)), both(chosen, services))?;
-    Ok(Login {
-        user,
-        services,
-        cache,
-        chosen,
-        read,
-        settings,
-    })
 }
 
 // The paths of the files that a login reads.

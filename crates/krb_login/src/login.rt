@@ -38,9 +38,9 @@ pub(crate) fn log_in(rt: &HostRuntime, login: &Login<'_>, means: Means<'_>) -> R
 
 /// Renews the ticket-granting ticket of the cache, gets the service tickets by the renewed one, and writes the cache anew. It begins as a
 /// login.
-pub(crate) fn renew(
-    rt: &HostRuntime,
-    login: &Login<'_>,
+pub(crate) fn renew<'a>(
+    rt: &'a HostRuntime,
+    login: &'a Login<'a>,
     credential: &Credential,
 ) -> Result<(), Stop> {
     let place = begin(rt, login.cache.as_str(), FileKind::Cache, &login.read)?;
