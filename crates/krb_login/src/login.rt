@@ -38,13 +38,21 @@ pub(crate) fn log_in(rt: &HostRuntime, login: &Login<'_>, means: Means<'_>) -> R
 
 /// Renews the ticket-granting ticket of the cache, gets the service tickets by the renewed one, and writes the cache anew. It begins as a
 /// login.
-pub(crate) fn renew<'a>(
-    rt: &'a HostRuntime,
-    login: &'a Login<'a>,
+pub(crate) fn renew(
+    rt: &HostRuntime,
+    login: &Login<'_>,
     credential: &Credential,
 ) -> Result<(), Stop> {
     let place = begin(rt, login.cache.as_str(), FileKind::Cache, &login.read)?;
     place.discard(rt);
+    renew_by(rt, login, credential)
+}
+
+fn renew_by<'a>(
+    rt: &'a HostRuntime,
+    login: &'a Login<'a>,
+    credential: &Credential,
+) -> Result<(), Stop> {
     let suites = login.wanted().suites();
     let name = login.user.argument;
     let mut kdc = KdcPipe::open(rt, &login.settings, name, Expected::Renewal(suites))?;
