@@ -73,21 +73,21 @@ type Arguments = (
 // What the arguments after the service say, if they are such arguments.
 fn further_of(arguments: Arguments) -> Option<Further> {
     match arguments {
-        (None, None, None, None) => Some(further(false, None)),
-        (Some(word), None, None, None) if word.as_str() == "subkey" => Some(further(true, None)),
+        (None, None, None, None) => Some(further_by(false, None)),
+        (Some(word), None, None, None) if word.as_str() == "subkey" => Some(further_by(true, None)),
         (Some(word), Some(path), None, None) if word.as_str() == "delegated" => {
-            Some(further(false, Some(path)))
+            Some(further_by(false, Some(path)))
         }
         (Some(first), Some(word), Some(path), None)
             if first.as_str() == "subkey" && word.as_str() == "delegated" => {
-            Some(further(true, Some(path)))
+            Some(further_by(true, Some(path)))
         }
         _ => None,
     }
 }
 
 // The sample protocol has no channel bindings.
-fn further(with_subkey: bool, delegated: Option<String>) -> Further {
+fn further_by(with_subkey: bool, delegated: Option<String>) -> Further {
     let terms = AcceptorTerms {
         with_subkey,
         ..AcceptorTerms::PLAIN
