@@ -23,7 +23,7 @@ pub(crate) fn server_of(
     rt: &HostRuntime,
 ) -> anyhow::Result<Server<Watched<<HostRuntime as Files>::File>>> {
     let mut arguments = env::args(rt)?.skip(1);
-    let (Some(keytab), Some(words), Some(moment), Some(service)) = (
+    let (Some(keytab), Some(random), Some(moment), Some(service)) = (
         arguments.next(),
         arguments.next(),
         arguments.next(),
@@ -31,19 +31,17 @@ pub(crate) fn server_of(
     ) else {
         bail!("expected: a keytab, a file of random octets, a moment and a service with its realm");
     };
-    let further = (
-        arguments.next(),
-        arguments.next(),
-        arguments.next(),
-        arguments.next(),
-    );
-    let Further { terms, delegated } = further_of(further).context(
+    let mut words = Vec::new(rt.alloc());
+    for word in arguments {
+        words.push(word)?;
+    }
+    let Further { terms, delegated } = further_of(words).context(
         "expected: subkey, delegated CACHE, both or nothing after the service",
     )?;
     let time = time_of(moment.as_str()).context("no moment: expected now or YYYYMMDDHHMMSSZ")?;
     let mut keytab = KeytabFile::new(keytab);
     let (service, keys) = service_in(rt, &mut keytab, service.as_str())?;
-    let words = fs::open(rt, words.as_str())?;
+    let words = fs::open(rt, random.as_str())?;
     Ok(Server {
         acceptor: Acceptor::new(service, terms),
         keytab,
@@ -62,25 +60,26 @@ struct Further {
     delegated: Option<String>,
 }
 
-// Up to four arguments after the service.
-type Arguments = (
-    Option<String>,
-    Option<String>,
-    Option<String>,
-    Option<String>,
-);
+// What the words after the service say, if they are such words.
+fn further_of(mut words: Vec<String>) -> Option<Further> {
+    let asked = asked_by(words.as_slice());
+    let path = words.pop();
+    drop(words);
+    match asked {
+        Some((with_subkey, true)) => Some(further_by(with_subkey, path)),
+        Some((with_subkey, false)) => Some(further_by(with_subkey, None)),
+        None => None,
+    }
+}
 
-// What the arguments after the service say, if they are such arguments.
-fn further_of(arguments: Arguments) -> Option<Further> {
-    match arguments {
-        (None, None, None, None) => Some(further_by(false, None)),
-        (Some(word), None, None, None) if word.as_str() == "subkey" => Some(further_by(true, None)),
-        (Some(word), Some(path), None, None) if word.as_str() == "delegated" => {
-            Some(further_by(false, Some(path)))
-        }
-        (Some(first), Some(word), Some(path), None)
-            if first.as_str() == "subkey" && word.as_str() == "delegated" => {
-            Some(further_by(true, Some(path)))
+// Whether the words ask for a subkey, and whether for a cache, whose path is then the last word.
+fn asked_by(words: &[String]) -> Option<(bool, bool)> {
+    match words {
+        [] => Some((false, false)),
+        [word] if word.as_str() == "subkey" => Some((true, false)),
+        [word, _] if word.as_str() == "delegated" => Some((false, true)),
+        [first, word, _] if first.as_str() == "subkey" && word.as_str() == "delegated" => {
+            Some((true, true))
         }
         _ => None,
     }
