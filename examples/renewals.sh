@@ -48,7 +48,14 @@ heimdal() {
 
 # login ARGUMENT..: krb_login at the KDC, with the cache of MIT's clients.
 login() {
-    "$top/bridges/krb_connect" "127.0.0.1:$port" -- "$KRB_LOGIN" -c "$work/mit.tickets" "$@"
+    login_of "$work/mit.tickets" "$@"
+}
+
+# login_of CACHE ARGUMENT..: krb_login with this cache
+login_of() {
+    cache=$1
+    shift
+    "$top/bridges/krb_connect" "127.0.0.1:$port" -- "$KRB_LOGIN" -c "$cache" "$@"
 }
 
 # flags SERVICE: the flags of the cache's ticket for the service, by MIT's klist, and whether it is renewable.
@@ -116,9 +123,11 @@ heimdal_clients() {
     try "Heimdal: kgetcred by the renewed ticket" yes "" heimdal kgetcred "host/$host@EXAMPLE.COM"
 }
 
-# logins FLAGS RENEWED: what krb_login gets.
+# logins FLAGS RENEWED: what krb_login gets. Heimdal's kdc refuses a renewal after the renew-till by an error of its own.
 logins() {
     [ -z "${NO_LOGIN:-}" ] || return
+    past="KRB_AP_ERR_TKT_EXPIRED (32); log in anew"
+    [ "$kdc" != heimdal ] || past="KDC_ERR_NEVER_VALID (11)"
     rm -f "$work/mit.tickets"
     try "krb_login -f -P -L" yes "" login -p "$work/password" -f -P -L $week -s "host/$host" user@EXAMPLE.COM
     try "its flags" yes "" has krbtgt/EXAMPLE.COM "$1 renewable"
@@ -134,12 +143,12 @@ logins() {
     try "its flags stay" yes "" has krbtgt/EXAMPLE.COM IA
     try "kinit -f -r 7d" yes "" typed "$password" mit kinit -f -r 7d user
     try "krb_login -R of that ticket" yes "" renews login -R
-    try "krb_login -R after the renew-till" no "KRB_AP_ERR_TKT_EXPIRED (32); log in anew" outlived login -R
+    try "krb_login -R after the renew-till" no "$past" outlived login -R
     try "krb_login -R with a password" no "expected no USER, MEANS, -f, -P or -L" login -R -p "$work/password"
-    try "krb_login -R without a cache" no "nothing can't be read" login -R -c "$work/nothing"
-    try "krb_login -R of a file that is no cache" no "password: the credential cache has version" login -R -c "$work/password"
+    try "krb_login -R without a cache" no "nothing can't be read" login_of "$work/nothing" -R
+    try "krb_login -R of a file that is no cache" no "password: the credential cache has version" login_of "$work/password" -R
     printf '\005\004\000\000\000\000\000\001\000\000\000\001\000\000\000\013EXAMPLE.COM\000\000\000\004user' >"$work/empty"
-    try "krb_login -R of a cache without a ticket" no "expected a user with a ticket-granting ticket" login -R -c "$work/empty"
+    try "krb_login -R of a cache without a ticket" no "expected a user with a ticket-granting ticket" login_of "$work/empty" -R
 }
 
 realm_rows() {
