@@ -1,1 +1,4 @@
 pub mod Room
+mod CountedLemmas
+mod FurtherLemmas
+pub mod KeyLemmas

@@ -1,2 +1,11 @@
 pub mod Replies
 pub mod Sizes
+pub mod AuthPacks
+pub mod ChosenKdfs
+pub mod Contexts
+pub mod DerivedKeys
+pub mod Further
+pub mod FurtherLaws
+pub mod Kdfs
+pub mod OtherInfos
+pub mod AgileReplies
