@@ -14,3 +14,9 @@ pub mod SignedRows
 pub mod SpelledElements
 pub mod SignedRowLaws
 pub mod WrittenOnce
+pub mod Digests
+pub mod GeneralContents
+pub mod GeneralForm
+pub mod GeneralLaws
+pub mod Identifiers
+pub mod OneForm
