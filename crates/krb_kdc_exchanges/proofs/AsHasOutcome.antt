@@ -21,10 +21,13 @@ use Rattle.krb_tickets.specs.declared.reply.Exchange.TheVariants.{As}
 use Rattle.block_ciphers.specs.Bytes.{IsBytes}
 use Rattle.krb_crypto.specs.Suites.{cipher_key_size}
 use Rattle.krb_messages.specs.Names.{components}
-use Rattle.krb_tickets.specs.ReplyKeys.{ReplyKeyRecord, agreed_reply_key, as_reply_key}
+use Rattle.krb_tickets.specs.ReplyKeys.{ReplyKeyRecord, as_reply_key}
 use Rattle.krb_tickets.specs.declared.reply.Exchange.{Exchange}
-use Rattle.krb_crypto.specs.AgreedKeys.{agreed_key}
 use Rattle.krb_crypto.proofs.AgreedKeyLemmas.{agreed_key-sized, agreed_key-bytes}
+use Rattle.pkinit_messages.specs.Contexts.{ContextRecord}
+use Rattle.pkinit_messages.specs.declared.agility.kdf.Kdf.{Kdf}
+use Rattle.pkinit_messages.proofs.KeyLemmas.{derived_key-sized, derived_key-bytes}
+use Rattle.krb_kdc_exchanges.specs.AgreedKeys.{agreed_reply, kdf_context, key_by}
 use Rattle.krb_kdc_exchanges.specs.Rows.{PkinitRows}
 use Rattle.krb_kdc_exchanges.specs.AsTable.{as_table, authenticated, authenticated_by, is_later, is_listed, possible, timestamped}
 use Rattle.krb_kdc_exchanges.specs.Call.{CallRecord, pkinit_call, skew_of}
@@ -63,6 +66,15 @@ has_timestamped call client padata =
     has_needed (first_of 2 padata) 25 (encrypted_timestamp call client)
     (λ value e. has_asked (IsEncryptedTimestamp client value) (sole_encrypted_timestamp client value) (done (Err 24)) (near call) (has_done (Err 24)) (λ timestamp x. has_near (moment_of timestamp) (is_far (skew_of call) call.moment)))
 
+-- an agreed key is a key of its suite
+key_by-sized : (suite : CipherSuite) (kdf : Option Kdf) (secret : List ℕ) (context : ContextRecord) → length (key_by suite kdf secret context) ≡ cipher_key_size suite
+key_by-sized suite None secret context = agreed_key-sized suite secret
+key_by-sized suite (Some kdf) secret context = derived_key-sized suite kdf secret context
+
+key_by-bytes : (suite : CipherSuite) (kdf : Option Kdf) (secret : List ℕ) (context : ContextRecord) → IsBytes (key_by suite kdf secret context)
+key_by-bytes suite None secret context = agreed_key-bytes suite secret
+key_by-bytes suite (Some kdf) secret context = derived_key-bytes suite kdf secret context
+
 -- the client is authenticated by a timestamp or by certificate, or refused
 module _ (call : CallRecord) (rows : PkinitRows) (client : AccountRecord) (name : List (List ℕ)) (request : KdcReq) where
   has_by : (padata : Option (List ℕ)) → HasOutcome (authenticated_by call rows client name request padata)
@@ -70,8 +82,8 @@ module _ (call : CallRecord) (rows : PkinitRows) (client : AccountRecord) (name 
       has_then {A = Unit {0}} (timestamped call client (padata_in request)) (λ _. done (Ok (as_reply_key client))) (has_timestamped call client (padata_in request)) (λ _ _. has_done (Ok (as_reply_key client)))
   has_by (Some padata) =
       has_then (rows.judges (pkinit_call call name request.req_body.0) padata)
-      (λ agreed. done (Ok (agreed_reply_key client.suite (agreed_key client.suite agreed.secret) agreed.reply)))
-      (rows.some (pkinit_call call name request.req_body.0) padata) (λ agreed a. has_done (Ok (agreed_reply_key client.suite (agreed_key client.suite agreed.secret) agreed.reply)))
+      (λ agreed. done (Ok (agreed_reply call client request agreed)))
+      (rows.some (pkinit_call call name request.req_body.0) padata) (λ agreed a. has_done (Ok (agreed_reply call client request agreed)))
 
   has_authenticated : HasOutcome (authenticated call rows client name request)
   has_authenticated = has_by (first_of 16 (padata_in request))
@@ -90,8 +102,13 @@ module _ (call : CallRecord) (rows : PkinitRows) (client : AccountRecord) (name 
       subst (λ (u : ReplyKeyRecord). IsUnder u) (sym (of_one under (as_reply_key client) x.2)) (record { exchange = refl; sized = keyed.sized; bytes = keyed.bytes })
   under_by keyed None under (inr x) = absurd (cc (x.2))
   under_by keyed (Some padata) under (inl x) =
-      subst (λ (u : ReplyKeyRecord). IsUnder u) (sym (of_one under (agreed_reply_key client.suite (agreed_key client.suite x.0.secret) x.0.reply) x.2))
-      (record { exchange = refl; sized = agreed_key-sized client.suite x.0.secret; bytes = agreed_key-bytes client.suite x.0.secret })
+      let context : ContextRecord = kdf_context call request x.0.reply in
+      subst (λ (u : ReplyKeyRecord). IsUnder u) (sym (of_one under (agreed_reply call client request x.0) x.2))
+      (record {
+        exchange = refl;
+        sized = key_by-sized client.suite x.0.kdf x.0.secret context;
+        bytes = key_by-bytes client.suite x.0.kdf x.0.secret context;
+      })
   under_by keyed (Some padata) under (inr x) = absurd (cc (x.2))
 
 -- the parts of the table, from the last one on

@@ -20,8 +20,8 @@ use Rattle.krb_messages.specs.declared.messages.kdc_req_body.KdcReqBody.{KdcReqB
 use Rattle.decision_tables.specs.Tables.{Table, and_then, ask, done, need, refuse}
 use Rattle.krb_messages.specs.Padata.{first_of}
 use Rattle.krb_kdc_exchanges.specs.EncryptedTimestamps.{IsEncryptedTimestamp, moment_of, sole_encrypted_timestamp}
-use Rattle.krb_tickets.specs.ReplyKeys.{ReplyKeyRecord, agreed_reply_key, as_reply_key}
-use Rattle.krb_crypto.specs.AgreedKeys.{agreed_key}
+use Rattle.krb_tickets.specs.ReplyKeys.{ReplyKeyRecord, as_reply_key}
+use Rattle.krb_kdc_exchanges.specs.AgreedKeys.{agreed_reply}
 use Rattle.krb_kdc_exchanges.specs.Rows.{PkinitRows}
 use Rattle.krb_kdc_exchanges.specs.Call.{CallRecord, pkinit_call, skew_of}
 use Rattle.krb_kdc_exchanges.specs.Grants.{granted}
@@ -75,9 +75,9 @@ authenticated_by call rows client name request None =
     done (Ok (as_reply_key client)))
 authenticated_by call rows client name request (Some padata) =
     and_then (rows.judges (pkinit_call call name (body_of request)) padata) (λ agreed.
-    -- By certificate the reply key is made of the agreed secret alone, without clientDHNonce and serverDHNonce (RFC 4556, section
-    -- 3.2.3.1). Test: `granted a suite 18`, `granted, client nonce` of `pkinit_exchanges.txt`.
-    done (Ok (agreed_reply_key client.suite (agreed_key client.suite agreed.secret) agreed.reply)))
+    -- By certificate the reply key is the one that client and KDC agreed on (RFC 4556, section 3.2.3.1). Test: `granted a suite 18` of
+    -- `pkinit_exchanges.txt`.
+    done (Ok (agreed_reply call client request agreed)))
 
 -- the reply key, as the first padata PA-PK-AS-REQ gives it, and else the encrypted timestamp
 abbrev pub authenticated : CallRecord → PkinitRows → AccountRecord → List Bytes → KdcReq → Table (Result ReplyKeyRecord Code)

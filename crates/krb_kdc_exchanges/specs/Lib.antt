@@ -10,6 +10,7 @@ pub mod Calls
 pub mod Granting
 pub mod Preauthentication
 pub mod Grants
+pub mod AgreedKeys
 pub mod AsTable
 pub mod TgsTable
 pub mod Before

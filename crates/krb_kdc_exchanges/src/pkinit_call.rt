@@ -2,6 +2,7 @@
 use krb_messages::messages::KdcReqBody;
 use krb_time::Moment;
 use picky_asn1::wrapper::GeneralStringAsn1;
+use pkinit_messages::agility::Kdf;
 
 /// A call with a request by certificate to a realm, without its padata.
 #[derive(Clone, Copy)]
@@ -25,6 +26,8 @@ pub struct PkinitCall<'a> {
 pub struct Agreed {
     /// The shared secret.
     pub secret: Vec<u8>,
+    /// The key derivation function of RFC 8636, if both agreed on one.
+    pub kdf: Option<Kdf>,
     /// The data of the padata PA-PK-AS-REP.
     pub reply: Vec<u8>,
 }

@@ -1,6 +1,7 @@
 //! Judges AS requests by the rows of a realm's table, part by part.
-ghost use Rattle.std.specs.Prelude.{◌≡◌, Some};
+ghost use Rattle.std.specs.Prelude.{◌≡◌, Some, IfOk};
 ghost use Rattle.krb_messages.specs.RandomBytes.{AreEnoughForReply};
+ghost use Rattle.krb_kdc_exchanges.specs.AgreedKeys.{as_req_bytes, kdf_context, key_by};
 ghost use Rattle.krb_kdc_exchanges.specs.AsTable.{authenticated, authenticated_by, is_later, is_listed, possible, timestamped};
 ghost use Rattle.krb_kdc_exchanges.specs.Preauthentication.{reply_key_as};
 ghost use Rattle.krb_kdc_exchanges.specs.Call.{call_of};
@@ -9,8 +10,8 @@ ghost use Rattle.krb_messages.specs.Refusals.{IsJudged};
 
 use crate::requests::has_refused_option;
 use crate::{
-    Agreed, Call, Pkinit, PkinitCall, Span, check_header, lasting, moment_of,
-    open_encrypted_timestamp,
+    Agreed, Call, Pkinit, PkinitCall, Span, check_header, client_of, lasting, moment_of,
+    open_encrypted_timestamp, service_of,
 };
 use krb_constants::error_codes;
 use krb_constants::padata_types::{PA_ENC_TIMESTAMP, PA_PK_AS_REQ};
@@ -22,7 +23,9 @@ use krb_messages::messages::{KdcReq, KdcReqBody};
 use krb_messages::{Refusal, first_of, is_number, padata_in};
 use krb_realm_accounts::Account;
 use picky_asn1::wrapper::GeneralStringAsn1;
-use std::alloc::Global;
+use picky_asn1_der::{Lent, tagged_encoding};
+use pkinit_messages::agility::{Kdf, KdfContext, derived_key};
+use std::alloc::{AllocError, Global};
 
 /// Judges the request's header, by the options that an AS request can't have.
 pub(crate) fn check_request(realm: &GeneralStringAsn1, request: &KdcReq) -> Result<(), Refusal>
@@ -131,16 +134,50 @@ fn agree_by<P: Pkinit>(
         words: call.words,
     };
     let agreed = pkinit.judge(alloc, &pkinit_call, padata)?;
-    let (secret, reply) = parts_of(agreed);
-    let key = agreed_key(alloc, client.suite(), secret)?;
+    let (secret, kdf, reply) = parts_of(agreed);
+    let key = key_by(alloc, call, client.suite(), request, kdf, secret, &reply)?;
     Ok(Preauthentication::ByCertificate(key, reply))
 }
 
-// The secret and the data of PA-PK-AS-REP.
-fn parts_of(agreed: Agreed) -> (Vec<u8>, Vec<u8>)
-    ensures { (result.0 ≡ agreed.secret) × (result.1 ≡ agreed.reply) }
+// The secret, the key derivation function, and the data of PA-PK-AS-REP.
+fn parts_of(agreed: Agreed) -> (Vec<u8>, Option<Kdf>, Vec<u8>)
+    ensures { (result.0 ≡ agreed.secret) × (result.1 ≡ agreed.kdf) × (result.2 ≡ agreed.reply) }
 {
-    (agreed.secret, agreed.reply)
+    (agreed.secret, agreed.kdf, agreed.reply)
+}
+
+// The key that a shared secret gives: by the key derivation function, if there is one.
+fn key_by(
+    alloc: Global,
+    call: &Call<'_>,
+    suite: CipherSuite,
+    request: &KdcReq,
+    kdf: Option<Kdf>,
+    secret: Vec<u8>,
+    reply: &[u8],
+) -> Result<Key, AllocError>
+    ensures { IfOk result (λ key. key ≡ record { suite = suite; bytes = key_by suite kdf secret.items (kdf_context (call_of call.now) request.now reply.now) }) }
+{
+    let Some(kdf) = kdf else {
+        return agreed_key(alloc, suite, secret);
+    };
+    let as_req = as_req_bytes(alloc, request)?;
+    let body = &request.req_body.0;
+    let context = KdfContext {
+        realm: call.realm,
+        client: client_of(body),
+        service: service_of(body),
+        as_req: &as_req,
+        pk_as_rep: reply,
+    };
+    derived_key(alloc, suite, kdf, secret, &context)
+}
+
+// The one encoding of the AS request.
+fn as_req_bytes(alloc: Global, request: &KdcReq) -> Result<Vec<u8>, AllocError>
+    ensures { IfOk result (λ bytes. bytes.items ≡ as_req_bytes request.now) }
+{
+    tagged_encoding::<Lent<'_, KdcReq>, AS_REQ_MSG_TYPE>(alloc, Lent::new(request))
 }
 
 // Judges whether the client proves that it has its key, by an encrypted timestamp near the moment (RFC 4120, section 5.2.7.2).
