@@ -5,3 +5,6 @@ mod JudgedReading
 mod JudgedParts
 mod SignerLemmas
 mod SignedLemmas
+mod PolicySignerLemmas
+mod WidenedLemmas
+mod NoLessLemmas

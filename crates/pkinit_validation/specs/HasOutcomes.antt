@@ -1,5 +1,5 @@
 -- The rows of a request by certificate have an outcome: each part of them has one.
-use Rattle.std.proofs.Common.{Bool, not, Result, Ok, Err, inl, inr, refl}
+use Rattle.std.proofs.Common.{Bool, not, None, Result, Ok, Err, inl, inr, refl}
 use Rattle.std.specs.Bool.{nat_eq}
 use Rattle.std.specs.Cmp.Lexicographic.{pointwise}
 use Rattle.sha2.specs.Sha256.{sha256}
@@ -47,7 +47,7 @@ told : {A T E F : Type 0} (told_as : E → F) (t : Table (Result A E)) (rest : A
 told told_as t rest unmet each (Ok a) x = each a x (λ s y. unmet s (inl (a, x, y)))
 told told_as t rest unmet each (Err error) x = unmet (Err (told_as error)) (inr (error, x, refl))
 
-has_told : {A T E F : Type 0} (told_as : E → F) (t : Table (Result A E)) (rest : A → Table (Result T F)) → HasOutcome t
+pub has_told : {A T E F : Type 0} (told_as : E → F) (t : Table (Result A E)) (rest : A → Table (Result T F)) → HasOutcome t
     → ((a : A) → t.gives (Ok a) → HasOutcome (rest a)) → HasOutcome (and_then_told told_as t rest)
 has_told told_as t rest some each = λ unmet. some (told told_as t rest unmet each)
 
@@ -90,29 +90,37 @@ has_named expected read =
     (λ element e. has_asked (IsPrincipal element) (sole_principal element) (done (Err NameMismatch)) (is_expected expected) (has_done (Err NameMismatch))
     (λ principal p. has_expected expected principal))
 
+pub has_accepted : (keys : KeysRecord) (expected : ExpectedRecord) (read : ReadRecord) → HasOutcome (accepted keys expected read)
+has_accepted keys expected read =
+    has_told (λ error. error) (issued keys expected read) (λ _. named expected read.certificate) (has_issued keys expected read) (λ _ _. has_named expected read)
+
 has_trusted : (keys : KeysRecord) (expected : ExpectedRecord) (judged : JudgedRecord) → HasOutcome (trusted keys expected judged)
 has_trusted keys expected judged =
     has_asked (IsCertificate judged.certificate) (sole_certificate judged.certificate) (done (Err CantVerifyCertificate)) (trusted_by keys expected judged) (has_done (Err CantVerifyCertificate))
     (λ read r. has_told (λ error. error) (accepted keys expected read) (λ _. signed_by keys read.certificate judged)
-    (has_told (λ error. error) (issued keys expected read) (λ _. named expected read.certificate) (has_issued keys expected read) (λ _ _. has_named expected read))
+    (has_accepted keys expected read)
     (λ _ _. has_signed keys read judged))
 
 has_agreed : (keys : KeysRecord) (judging : JudgingRecord) (fields : AuthPackFieldsRecord) → HasOutcome (agreed_on keys judging fields)
 has_agreed keys judging fields =
     has_refused {T = AgreedRecord} (is_far judging.skew judging.expected.moment fields.time) KRB_AP_ERR_SKEW _
     (λ _. has_needed (keys.agree (WholeValue fields.value) (agreement_bytes judging.words)) KDC_ERR_KEY_TOO_WEAK _
-    (λ secret e. has_then (pk_as_rep keys judging.certificate fields.nonce judging.words) (λ reply. done (Ok (record { secret = secret; reply = reply })))
-    (has_reply keys judging.certificate fields.nonce judging.words) (λ reply r. has_done (Ok (record { secret = secret; reply = reply })))))
+    (λ secret e. has_then (pk_as_rep keys judging.certificate fields.nonce judging.words) (λ reply. done (Ok (record { secret = secret; kdf = None; reply = reply })))
+    (has_reply keys judging.certificate fields.nonce judging.words) (λ reply r. has_done (Ok (record { secret = secret; kdf = None; reply = reply })))))
 
 has_auth_pack_fields : (body : KdcReqBody) (pack : AuthPack Raw) → HasOutcome (auth_pack_fields body pack)
 has_auth_pack_fields body pack =
     has_needed (value_in pack) KDC_ERR_PREAUTH_FAILED _ (λ value v. has_needed (time_in pack) KDC_ERR_PREAUTH_FAILED _ (λ time t. has_refused {T = AuthPackFieldsRecord} (not (covers body pack)) KDC_ERR_PREAUTH_FAILED _ (λ _. has_done (Ok _))))
 
+pub has_signed_by_client : (keys : KeysRecord) (expected : ExpectedRecord) (content : SignedParts) → HasOutcome (signed_by_client keys expected content)
+has_signed_by_client keys expected content =
+    has_told code_of (trusted keys expected (judged_in content)) (λ _. done (Ok tt)) (has_trusted keys expected (judged_in content)) (λ _ _. has_done (Ok tt))
+
 has_pack : (keys : KeysRecord) (judging : JudgingRecord) (content : SignedParts) (pack : AuthPack Raw) → HasOutcome (of_auth_pack keys judging content pack)
 has_pack keys judging content pack =
     has_then (auth_pack_fields judging.body pack) (λ fields. and_then (signed_by_client keys judging.expected content) (λ _. agreed_on keys judging fields)) (has_auth_pack_fields judging.body pack)
     (λ fields a. has_then {A = Unit {0}} (signed_by_client keys judging.expected content) (λ _. agreed_on keys judging fields)
-    (has_told code_of (trusted keys judging.expected (judged_in content)) (λ _. done (Ok tt)) (has_trusted keys judging.expected (judged_in content)) (λ _ _. has_done (Ok tt)))
+    (has_signed_by_client keys judging.expected content)
     (λ _ _. has_agreed keys judging fields))
 
 has_content : (keys : KeysRecord) (judging : JudgingRecord) (content : SignedParts) → HasOutcome (of_content keys judging content)

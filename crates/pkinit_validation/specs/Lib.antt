@@ -20,3 +20,13 @@ pub mod AgreementBytes
 pub mod PublicKeys
 pub mod Replies
 pub mod ReplyOutcome
+pub mod Checksums
+pub mod GeneralFields
+pub mod GeneralReplies
+pub mod GeneralReplyOutcome
+pub mod GeneralTable
+pub mod GeneralTrust
+pub mod HasGeneral
+pub mod HasTrusted
+pub mod PolicyRows
+pub mod Widened

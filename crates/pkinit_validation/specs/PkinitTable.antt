@@ -1,6 +1,6 @@
 -- How the KDC judges an AS request with PA-PK-AS-REQ, in parts of one table: the first case that holds counts (RFC 4556, section
 -- 3.2.2).
-use Rattle.std.specs.Prelude.{Bool, not, Result, Ok, Err}
+use Rattle.std.specs.Prelude.{Bool, not, None, Result, Ok, Err}
 use Rattle.std.specs.Bool.{nat_eq}
 use Rattle.std.specs.Cmp.Lexicographic.{pointwise}
 use Rattle.asn1_leaves.specs.ObjectIdentifier.{oid_content}
@@ -67,7 +67,8 @@ agreed_on keys judging fields =
     -- Test: `agree none, client b`, `agree none, loose realm`.
     (need (keys.agree (WholeValue fields.value) (agreement_bytes judging.words)) KDC_ERR_KEY_TOO_WEAK (λ secret.
     and_then (pk_as_rep keys judging.certificate fields.nonce judging.words) (λ reply.
-    done (Ok (record { secret = secret; reply = reply })))))
+    -- The reply key is made without a key derivation function of RFC 8636 (RFC 4556, section 3.2.3.1). Test: `granted a suite 18`.
+    done (Ok (record { secret = secret; kdf = None; reply = reply })))))
 
 -- Judges an AuthPack: its fields, then who signed it, then its time and its public value.
 abbrev pub of_auth_pack : KeysRecord → JudgingRecord → SignedParts → AuthPack Raw → Table (Result AgreedRecord Code)

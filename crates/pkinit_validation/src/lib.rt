@@ -15,7 +15,10 @@
 //! value and the authenticator's nonce, which the certificate's holder signs. Where there is none, it returns error 60. Signed data of a
 //! content with a certificate's own bytes are one string of bytes (`one_written`). [`public_key_of`] returns the public key of which an
 //! element is the one encoding, if there is one. [`request_fault`] tells which row of a PA-PK-AS-REQ ends with KDC_ERR_PREAUTH_FAILED,
-//! where one does.
+//! where one does. A [`policies::PolicyPkinit`] is a [`RealmPkinit`] with a policy, or without. Without a policy its rows are those of the
+//! realm alone (law `policies::laws::as_before`). With one it takes signed data and an AuthPack as stock clients send them, and makes the
+//! reply key by a key derivation function that the client lists (`general_table`). Each such request has an outcome (`has_general`). What is
+//! granted without a policy is granted with one (law `policies::laws::takes_no_less`).
 #![tactic(auto)]
 
 mod accepted;
@@ -30,6 +33,7 @@ mod judged;
 mod judging;
 pub mod laws;
 mod parts;
+pub mod policies;
 mod principal_name;
 mod principals;
 mod public_key;

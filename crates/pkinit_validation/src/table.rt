@@ -148,5 +148,9 @@ fn agree_on<K: KeyFunctions>(
         fields.nonce,
         judging.words,
     )?;
-    Ok(Agreed { secret, reply })
+    Ok(Agreed {
+        secret,
+        kdf: None,
+        reply,
+    })
 }

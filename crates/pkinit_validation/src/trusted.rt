@@ -85,8 +85,8 @@ fn check_in<T: Judges + Drop, K: KeyFunctions>(
     value.check(alloc, keys, expected, signed, judged)
 }
 
-// Judges whether the certificate is accepted for the expected principal.
-fn check_accepted<K: KeyFunctions>(
+/// Judges whether the certificate is accepted for the expected principal. `signed` is the slice that its issuer signed.
+pub(crate) fn check_accepted<K: KeyFunctions>(
     alloc: Global,
     keys: &K,
     expected: &ExpectedSigner<'_>,

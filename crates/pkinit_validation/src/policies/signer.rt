@@ -1,0 +1,243 @@
+//! Whether the client signed its AuthPack.
+ghost use Rattle.std.specs.Prelude.{◌≡◌, IfOk};
+ghost use Rattle.std.specs.Bool.{nat_eq};
+ghost use Rattle.std.specs.Cmp.Lexicographic.{pointwise};
+ghost use Rattle.asn1_leaves.specs.ObjectIdentifier.{oid_content};
+ghost use Rattle.picky_asn1_der.specs.Found.{IsFound};
+ghost use Rattle.krb_messages.specs.Refusals.{IsJudged};
+ghost use Rattle.pkinit_validation.specs.Expected.{expected_of};
+ghost use Rattle.pkinit_validation.specs.Refusals.{IsOutcome};
+ghost use Rattle.pkinit_validation.specs.GeneralTrust.{IsAlgorithm, IsJudgedAs, IsJudgedBy, by_certificate, general_signed_by, general_signer, rsa_beside, takes_digest, trusted_among, verifies_by, verifies_under};
+
+use crate::certificates::read_signed;
+use crate::policies::policy::GeneralPolicy;
+use crate::trusted::check_accepted;
+use crate::{ExpectedSigner, TrustFault, TrustRefusal};
+use cms_signed_data::general_form::{DigestAlgorithm, GeneralContent, names};
+use krb_constants::error_codes::KDC_ERR_DIGEST_IN_SIGNED_DATA_NOT_ACCEPTED;
+use krb_messages::Refusal;
+use picky_asn1_der::Asn1RawDer;
+use std::alloc::{AllocError, Global};
+use x509_algorithms::AlgorithmIdentifier;
+use x509_certificates::Certificate;
+use x509_codec::from_bytes;
+use x509_keys::KeyFunctions;
+use x509_spelling::X509Fault;
+
+/// The content octets of rsaEncryption, 1.2.840.113549.1.1.1.
+pub(crate) const RSA_ENCRYPTION: [u8; 9] = [0x2A, 0x86, 0x48, 0x86, 0xF7, 0x0D, 0x01, 0x01, 0x01];
+
+/// Judges whether the client signed the content, by a digest that the policy takes.
+pub(crate) fn check_general_signer<K: KeyFunctions>(
+    alloc: Global,
+    keys: &K,
+    policy: GeneralPolicy,
+    expected: &ExpectedSigner<'_>,
+    content: &GeneralContent,
+) -> Result<(), Refusal>
+    ensures { IsJudged (general_signer (K.functions keys.now) policy (expected_of expected.now) content.now).gives result }
+{
+    if !takes_digest(policy, content.digest_algorithm()) {
+        return Err(Refusal::Krb(KDC_ERR_DIGEST_IN_SIGNED_DATA_NOT_ACCEPTED));
+    }
+    match check_among(alloc, keys, expected, content, content.certificates()) {
+        Ok(()) => Ok(()),
+        Err(fault) => Err(Refusal::from(fault)),
+    }
+}
+
+fn takes_digest(policy: GeneralPolicy, digest: DigestAlgorithm) -> bool
+    ensures { result ≡ takes_digest policy digest }
+{
+    match digest {
+        DigestAlgorithm::Sha1 => policy.takes_sha1,
+        DigestAlgorithm::Sha256 => true,
+        DigestAlgorithm::Sha384 => true,
+        DigestAlgorithm::Sha512 => true,
+    }
+}
+
+// Judges the content by the first of these certificates that its signer names.
+fn check_among<K: KeyFunctions>(
+    alloc: Global,
+    keys: &K,
+    expected: &ExpectedSigner<'_>,
+    content: &GeneralContent,
+    certificates: &[Asn1RawDer],
+) -> Result<(), TrustFault>
+    ensures { IsOutcome (trusted_among (K.functions keys.now) (expected_of expected.now) content.now certificates.now).gives result }
+{
+    let mut rest = certificates;
+    'certificates: while let [raw, more @ ..] = rest {
+        let judged = judged_by(alloc, keys, expected, content, raw.as_bytes())?;
+        if let Some(outcome) = judged {
+            return told(outcome);
+        }
+        rest = more;
+    }
+    Err(TrustFault::Refused(TrustRefusal::InvalidSignature))
+}
+
+fn told(outcome: Result<(), TrustRefusal>) -> Result<(), TrustFault>
+    ensures { IsOutcome (λ given. given ≡ outcome) result }
+{
+    match outcome {
+        Ok(()) => Ok(()),
+        Err(refusal) => Err(TrustFault::Refused(refusal)),
+    }
+}
+
+// Judges the content by a certificate of the list, or `None` where the bytes are none that its signer names.
+fn judged_by<K: KeyFunctions>(
+    alloc: Global,
+    keys: &K,
+    expected: &ExpectedSigner<'_>,
+    content: &GeneralContent,
+    bytes: &[u8],
+) -> Result<Option<Result<(), TrustRefusal>>, AllocError>
+    ensures { IfOk result (IsJudgedBy (K.functions keys.now) (expected_of expected.now) content.now bytes.now) }
+{
+    let Some((certificate, signed)) = read_signed::<Certificate>(alloc, bytes)? else {
+        return Ok(None);
+    };
+    let judged = judged_as(alloc, keys, expected, content, &certificate, signed);
+    drop(certificate);
+    judged
+}
+
+fn judged_as<K: KeyFunctions>(
+    alloc: Global,
+    keys: &K,
+    expected: &ExpectedSigner<'_>,
+    content: &GeneralContent,
+    certificate: &Certificate,
+    signed: &[u8],
+) -> Result<Option<Result<(), TrustRefusal>>, AllocError>
+    ensures { IfOk result (IsJudgedAs (K.functions keys.now) (expected_of expected.now) content.now (record { certificate = certificate.now; signed = signed.now })) }
+{
+    if !names(alloc, content.sid(), certificate)? {
+        return Ok(None);
+    }
+    match check_certificate(alloc, keys, expected, content, certificate, signed) {
+        Ok(()) => Ok(Some(Ok(()))),
+        Err(TrustFault::Refused(refusal)) => Ok(Some(Err(refusal))),
+        Err(TrustFault::Memory) => Err(AllocError),
+    }
+}
+
+// Judges the certificate, and then the signature.
+fn check_certificate<K: KeyFunctions>(
+    alloc: Global,
+    keys: &K,
+    expected: &ExpectedSigner<'_>,
+    content: &GeneralContent,
+    certificate: &Certificate,
+    signed: &[u8],
+) -> Result<(), TrustFault>
+    ensures { IsOutcome (by_certificate (K.functions keys.now) (expected_of expected.now) content.now (record { certificate = certificate.now; signed = signed.now })).gives result }
+{
+    check_accepted(alloc, keys, expected, certificate, signed)?;
+    check_signature(alloc, keys, certificate, content)
+}
+
+// Judges whether the certificate's holder signed the content.
+fn check_signature<K: KeyFunctions>(
+    alloc: Global,
+    keys: &K,
+    certificate: &Certificate,
+    content: &GeneralContent,
+) -> Result<(), TrustFault>
+    ensures { IsOutcome (general_signed_by (K.functions keys.now) certificate.now content.now).gives result }
+{
+    let digest = content.digest_algorithm();
+    if !digest.is_digest_of(content.content(), content.digest()) {
+        return Err(TrustFault::Refused(TrustRefusal::InvalidSignature));
+    }
+    let Some(algorithm) = algorithm_in(alloc, content.signature_algorithm())? else {
+        return Err(TrustFault::Refused(TrustRefusal::InvalidSignature));
+    };
+    let verified = is_verified(alloc, keys, certificate, content, &algorithm);
+    drop(algorithm);
+    if !verified? {
+        return Err(TrustFault::Refused(TrustRefusal::InvalidSignature));
+    }
+    Ok(())
+}
+
+// The algorithm of which the element is a spelling, or `None`.
+fn algorithm_in(alloc: Global, raw: &Asn1RawDer) -> Result<Option<AlgorithmIdentifier>, AllocError>
+    ensures { IfOk result (IsFound (IsAlgorithm raw.now)) }
+{
+    match from_bytes(alloc, raw.as_bytes()) {
+        Ok(algorithm) => Ok(Some(algorithm)),
+        Err(fault) => {
+            if fault == X509Fault::Memory {
+                return Err(AllocError);
+            }
+            Ok(None)
+        }
+    }
+}
+
+// Whether the signature verifies under the certificate's key.
+fn is_verified<K: KeyFunctions>(
+    alloc: Global,
+    keys: &K,
+    certificate: &Certificate,
+    content: &GeneralContent,
+    algorithm: &AlgorithmIdentifier,
+) -> Result<bool, AllocError>
+    ensures { IfOk result (λ is. is ≡ verifies_under (K.functions keys.now) certificate.now content.now algorithm.now) }
+{
+    if !is_rsa_encryption(algorithm) {
+        return Ok(verifies(keys, certificate, content, algorithm));
+    }
+    let Some(named) = rsa_beside(alloc, content.digest_algorithm())? else {
+        return Ok(verifies(keys, certificate, content, algorithm));
+    };
+    let verified = verifies(keys, certificate, content, &named);
+    drop(named);
+    Ok(verified)
+}
+
+// The algorithm that rsaEncryption is beside a digest algorithm, if it is another one.
+fn rsa_beside(
+    alloc: Global,
+    digest: DigestAlgorithm,
+) -> Result<Option<AlgorithmIdentifier>, AllocError>
+    ensures { IfOk result (λ made. made ≡ rsa_beside digest) }
+{
+    match digest {
+        DigestAlgorithm::Sha1 => {
+            let sha1 = AlgorithmIdentifier::new_sha1_with_rsa_encryption(alloc)?;
+            Ok(Some(sha1))
+        }
+        DigestAlgorithm::Sha256 => Ok(None),
+        DigestAlgorithm::Sha384 => {
+            let sha384 = AlgorithmIdentifier::new_sha384_with_rsa_encryption(alloc)?;
+            Ok(Some(sha384))
+        }
+        DigestAlgorithm::Sha512 => {
+            let sha512 = AlgorithmIdentifier::new_sha512_with_rsa_encryption(alloc)?;
+            Ok(Some(sha512))
+        }
+    }
+}
+
+fn verifies<K: KeyFunctions>(
+    keys: &K,
+    certificate: &Certificate,
+    content: &GeneralContent,
+    algorithm: &AlgorithmIdentifier,
+) -> bool
+    ensures { result ≡ verifies_by (K.functions keys.now) certificate.now content.now algorithm.now }
+{
+    let key = &certificate.tbs_certificate.subject_public_key_info;
+    keys.verifies(key, algorithm, content.covered(), content.signature())
+}
+
+fn is_rsa_encryption(algorithm: &AlgorithmIdentifier) -> bool
+    ensures { result ≡ pointwise nat_eq (oid_content algorithm.now.algorithm.0) RSA_ENCRYPTION }
+{
+    algorithm.oid().as_bytes() == RSA_ENCRYPTION.as_slice()
+}
