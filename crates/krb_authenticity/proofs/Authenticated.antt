@@ -13,12 +13,12 @@ use Rattle.krb_messages.specs.declared.data_types.pa_data.PaData.{PaData}
 use Rattle.krb_messages.specs.declared.data_types.pa_enc_timestamp.PaEncTsEnc.{PaEncTsEnc}
 use Rattle.krb_realm_accounts.specs.Account.{AccountRecord}
 use Rattle.decision_tables.specs.Tables.{Table, ask, done, need, refuse}
-use Rattle.krb_crypto.specs.AgreedKeys.{agreed_key}
 use Rattle.krb_kdc_exchanges.specs.PkinitCalls.{AgreedRecord}
 use Rattle.krb_kdc_exchanges.specs.Rows.{PkinitRows}
 use Rattle.krb_kdc_exchanges.specs.EncryptedTimestamps.{IsEncryptedTimestamp, moment_of, sole_encrypted_timestamp}
 use Rattle.krb_tickets.specs.Grant.{GrantRecord}
-use Rattle.krb_tickets.specs.ReplyKeys.{ReplyKeyRecord, agreed_reply_key, as_reply_key}
+use Rattle.krb_kdc_exchanges.specs.AgreedKeys.{agreed_reply}
+use Rattle.krb_tickets.specs.ReplyKeys.{ReplyKeyRecord, as_reply_key}
 use Rattle.krb_ap_requests.proofs.Chosen.{needed}
 use Rattle.krb_ap_requests.proofs.Shown.{both}
 use Rattle.krb_service.proofs.Admitting.{passes}
@@ -123,7 +123,7 @@ module _ (rows : PkinitRows) (keys : List Bytes) (before : List ExchangeRecord) 
   own_key _ = done (Ok (as_reply_key client))
 
   abbrev agreed_on : AgreedRecord → Table (Result ReplyKeyRecord ℕ)
-  agreed_on agreed = done (Ok (agreed_reply_key client.suite (agreed_key client.suite agreed.secret) agreed.reply))
+  agreed_on agreed = done (Ok (agreed_reply exchange.call client first.asked agreed))
 
   by_padata : (padata : Option Bytes) → first_of 16 (padata_in first.asked) ≡ padata
       → (authenticated_by exchange.call rows client (components first.principals.client_name) first.asked padata).gives (Ok under)

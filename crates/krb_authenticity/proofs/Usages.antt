@@ -5,7 +5,6 @@ use Rattle.std.specs.Option.{option_map}
 use Rattle.std.specs.Prelude.{◌==◌, ◌||◌}
 use Rattle.picky_asn1.specs.Bytes.{Bytes}
 use Rattle.decision_tables.specs.Tables.{Table, done}
-use Rattle.krb_crypto.specs.AgreedKeys.{agreed_key}
 use Rattle.krb_crypto.specs.declared.suite.CipherSuite.{CipherSuite}
 use Rattle.krb_messages.specs.Names.{components}
 use Rattle.krb_messages.specs.Padata.{first_of, padata_in}
@@ -13,9 +12,10 @@ use Rattle.krb_messages.specs.declared.data_types.encryption_key.EncryptionKey.{
 use Rattle.krb_realm_accounts.specs.Account.{AccountRecord}
 use Rattle.krb_tickets.specs.Grant.{GrantRecord}
 use Rattle.krb_tickets.specs.Keys.{suite_of}
-use Rattle.krb_tickets.specs.ReplyKeys.{ReplyKeyRecord, agreed_reply_key, as_reply_key, tgs_reply_key, tgs_subkey_reply_key}
+use Rattle.krb_tickets.specs.ReplyKeys.{ReplyKeyRecord, as_reply_key, tgs_reply_key, tgs_subkey_reply_key}
 use Rattle.krb_tickets.specs.declared.reply.Exchange.TheVariants.{As, Tgs}
 use Rattle.krb_ap_requests.proofs.Shown.{both, ok_same}
+use Rattle.krb_kdc_exchanges.specs.AgreedKeys.{agreed_reply}
 use Rattle.krb_kdc_exchanges.specs.AsTable.{authenticated_by, timestamped}
 use Rattle.krb_kdc_exchanges.specs.Call.{pkinit_call}
 use Rattle.krb_kdc_exchanges.specs.PkinitCalls.{AgreedRecord}
@@ -44,7 +44,7 @@ module _ (rows : PkinitRows) (exchange : ExchangeRecord) (grant : GrantRecord) (
     own_key _ = done (Ok (as_reply_key client))
 
     abbrev agreed_on : AgreedRecord → Table (Result ReplyKeyRecord ℕ)
-    agreed_on agreed = done (Ok (agreed_reply_key client.suite (agreed_key client.suite agreed.secret) agreed.reply))
+    agreed_on agreed = done (Ok (agreed_reply exchange.call client is.asked agreed))
 
     by_padata : (padata : Option Bytes) → (authenticated_by exchange.call rows client (components is.principals.client_name) is.asked padata).gives (Ok under) → IsOfFirst under
     by_padata None x =
@@ -53,7 +53,7 @@ module _ (rows : PkinitRows) (exchange : ExchangeRecord) (grant : GrantRecord) (
         record { exchange = ap (λ (u : ReplyKeyRecord). u.exchange) same; usage = ap (λ (u : ReplyKeyRecord). u.usage) same }
     by_padata (Some padata) x =
         let own = both {A = AgreedRecord} {T = ReplyKeyRecord} (rows.judges (pkinit_call exchange.call (components is.principals.client_name) (body_of is.asked)) padata) agreed_on under x in
-        let agreed : ReplyKeyRecord = agreed_reply_key client.suite (agreed_key client.suite own.0.secret) own.0.reply in
+        let agreed : ReplyKeyRecord = agreed_reply exchange.call client is.asked own.0 in
         let same : under ≡ agreed = ok_same under agreed own.2 in
         record { exchange = ap (λ (u : ReplyKeyRecord). u.exchange) same; usage = ap (λ (u : ReplyKeyRecord). u.usage) same }
 

@@ -1,10 +1,11 @@
 -- A client and a realm that trust each other by certificate: the realm authenticates the client, and both have one reply key.
-use Rattle.std.proofs.Common.{◌≡◌, ℕ, false, [], ◌∷◌, Some, Result, Ok, Err, inl, inr, refl, sym, ap, ◌∙◌, subst}
+use Rattle.std.proofs.Common.{◌≡◌, ℕ, false, [], ◌∷◌, Option, None, Some, Result, Ok, Err, inl, inr, refl, sym, ap, ◌∙◌, subst}
 use Rattle.std.specs.Option.{option_map_or}
 use Rattle.picky_asn1.specs.Bytes.{Bytes}
 use Rattle.krb_time.specs.Skew.{is_far}
 use Rattle.krb_messages.specs.declared.data_types.pa_data.PaData.{PaData}
 use Rattle.krb_messages.specs.declared.messages.kdc_rep.KdcRep.{KdcRep}
+use Rattle.krb_messages.specs.declared.messages.kdc_req.KdcReq.{KdcReq}
 use Rattle.krb_messages.specs.declared.messages.kdc_req_body.KdcReqBody.{KdcReqBody}
 use Rattle.krb_crypto.specs.Keys.{KeyRecord}
 use Rattle.krb_crypto.specs.AgreedKeys.{agreed_key}
@@ -16,6 +17,7 @@ use Rattle.krb_messages.specs.Padata.{first_padata, first_of}
 use Rattle.krb_tickets.specs.MethodData.{pa_data_of}
 use Rattle.krb_tickets.specs.Parts.{padata_of}
 use Rattle.krb_tickets.specs.ReplyKeys.{ReplyKeyRecord, agreed_reply_key}
+use Rattle.krb_kdc_exchanges.specs.AgreedKeys.{agreed_reply, kdf_context, key_by}
 use Rattle.krb_kdc_exchanges.specs.AsTable.{authenticated, authenticated_by}
 use Rattle.krb_kdc_exchanges.specs.Call.{CallRecord, skew_of}
 use Rattle.krb_kdc_exchanges.specs.Calls.{AreKeyed}
@@ -31,6 +33,7 @@ use Rattle.krb_logins.specs.Parties.{LoginRecord, RealmRecord, RememberedRecord,
 use Rattle.krb_logins.specs.Steps.{AreDecided}
 use Rattle.krb_logins.proofs.Giving.{past_found}
 use Rattle.x509_keys.specs.KeyFunctions.{KeysRecord}
+use Rattle.pkinit_messages.specs.declared.agility.kdf.Kdf.{Kdf}
 use Rattle.pkinit_validation.specs.Anchors.{AnchorRecord}
 use Rattle.pkinit_validation.specs.AgreementBytes.{agreement_bytes}
 use Rattle.pkinit_validation.specs.PkinitRows.{pkinit_rows}
@@ -98,14 +101,20 @@ module _ (client : ClientRecord) (certificate : Bytes) (anchor : AnchorRecord) (
   abbrev reply_there : IsHonestReply client_keys realm_keys agreement.pkinit.own (agreement_bytes login.realm_words_as) remembered
   reply_there = record { agreeing = agreement.agreeing; realm_trusted = by.exchange.realm_trusted }
 
-  -- the realm agreed on the secret, and replies so
+  -- the realm agreed on the secret, without a key derivation function, and replies so
   abbrev IsAgreed : AgreedRecord → Type 0
   IsAgreed agreed =
       (agreed.secret ≡ agreement.agreeing.secret)
       × IsAgreedReply realm_keys agreement.pkinit.own agreement.agreeing.realm_key.subject_public_key body.nonce.0 agreed.reply
+      × (agreed.kdf ≡ None)
 
   abbrev key_under : AgreedRecord → ReplyKeyRecord
   key_under agreed = agreed_reply_key account.suite (agreed_key account.suite agreed.secret) agreed.reply
+
+  -- the reply key is the key of the secret alone
+  same_key : (asked : KdcReq) (agreed : AgreedRecord) → agreed.kdf ≡ None → agreed_reply call account asked agreed ≡ key_under agreed
+  same_key asked agreed none =
+      ap (λ (kdf : Option Kdf). agreed_reply_key account.suite (key_by account.suite kdf agreed.secret (kdf_context call asked agreed.reply)) agreed.reply) none
 
   module _ (agreed : AgreedRecord) (is : IsAgreed agreed) where
     -- the client's secret is the realm's
@@ -134,14 +143,17 @@ module _ (client : ClientRecord) (certificate : Bytes) (anchor : AnchorRecord) (
     found : (s : Result AgreedRecord ℕ) → (pkinit_table realm_keys trust judged it.value).gives s → (agreed : AgreedRecord) × IsAgreed agreed × (s ≡ Ok agreed)
     found s gives =
         let granted = granting.granted client_keys realm_keys certificate login.client_as (agreement_part login.words_as) trust judged request it.value it.is_request s gives in
-        (granted.agreed, (granted.same_secret, granted.is_reply), granted.is_agreed)
+        (granted.agreed, (granted.same_secret, granted.is_reply, granted.no_kdf), granted.is_agreed)
 
     replied_under : (r : Result ReplyKeyRecord ℕ) → (authenticated call (pkinit_rows trust realm_keys) account client.components (as_request_of padata body)).gives r
         → (agreed : AgreedRecord) × IsAgreed agreed × (r ≡ Ok (key_under agreed))
     replied_under r x =
         let own = subst (λ p. (authenticated call (pkinit_rows trust realm_keys) account client.components (as_request_of p body)).gives r) it.made x in
-        past_found {A = AgreedRecord} {T = ReplyKeyRecord} {E = ℕ} IsAgreed (pkinit_table realm_keys trust judged it.value) (λ agreed. done (Ok (key_under agreed))) r found
-        (subst (λ first. (authenticated_by call (pkinit_rows trust realm_keys) account client.components (as_request_of (pa_data_of 16 it.value) body) first).gives r) (own_request it.value) own)
+        let asked : KdcReq = as_request_of (pa_data_of 16 it.value) body in
+        let made =
+        past_found {A = AgreedRecord} {T = ReplyKeyRecord} {E = ℕ} IsAgreed (pkinit_table realm_keys trust judged it.value) (λ agreed. done (Ok (agreed_reply call account asked agreed))) r found
+        (subst (λ first. (authenticated_by call (pkinit_rows trust realm_keys) account client.components asked first).gives r) (own_request it.value) own) in
+        (made.0, made.1, made.2 ∙ (λ i. Ok (same_key asked made.0 made.1.2 i)))
 
   pub authenticated_by_certificate : IsAuthenticated client (by_certificate certificate anchor client_keys) realm (pkinit_rows trust realm_keys) account login
   authenticated_by_certificate = record {

@@ -119,11 +119,11 @@ replies keys own nonce words element key signed value is written =
 agrees : (keys : KeysRecord) (judging : JudgingRecord) (asked : AuthPackFieldsRecord) (secret reply : Bytes)
     → is_far judging.skew judging.expected.moment asked.time ≡ false → keys.agree (WholeValue asked.value) (agreement_bytes judging.words) ≡ Some secret
     → (pk_as_rep keys judging.certificate asked.nonce judging.words).gives (Ok reply)
-    → (agreed_on keys judging asked).gives (Ok (record { secret = secret; reply = reply }))
+    → (agreed_on keys judging asked).gives (Ok (record { secret = secret; kdf = None; reply = reply }))
 agrees keys judging asked secret reply near agreed replied =
-    by_refuse {T = AgreedRecord} {E = Code} (is_far judging.skew judging.expected.moment asked.time) KRB_AP_ERR_SKEW _ (Ok (record { secret = secret; reply = reply })) near
+    by_refuse {T = AgreedRecord} {E = Code} (is_far judging.skew judging.expected.moment asked.time) KRB_AP_ERR_SKEW _ (Ok (record { secret = secret; kdf = None; reply = reply })) near
     (by_need {A = Bytes} {T = AgreedRecord} {E = Code} (keys.agree (WholeValue asked.value) (agreement_bytes judging.words)) KDC_ERR_KEY_TOO_WEAK _ secret
-    (Ok (record { secret = secret; reply = reply })) agreed (inl (reply, replied, refl)))
+    (Ok (record { secret = secret; kdf = None; reply = reply })) agreed (inl (reply, replied, refl)))
 
 module _ (client_keys realm_keys : KeysRecord) (certificate : Bytes) (client_moment : Micros) (client_words : Bytes) (trust : TrustRecord) (call : PkinitCallRecord)
     (honest : IsHonestRequest client_keys realm_keys certificate client_moment client_words trust call) where
@@ -142,7 +142,7 @@ module _ (client_keys realm_keys : KeysRecord) (certificate : Bytes) (client_mom
       written_over realm_keys client_keys pkinit.own honest.read agreeing.realm_key.subject_public_key call.body.nonce.0 honest.reads honest.signs
 
   abbrev agreed : AgreedRecord
-  agreed = record { secret = agreeing.secret; reply = dh_reply_bytes (dh_reply_of reply_signed.0) }
+  agreed = record { secret = agreeing.secret; kdf = None; reply = dh_reply_bytes (dh_reply_of reply_signed.0) }
 
   -- the client signs the AuthPack with its public value
   pack_text : (second : GeneralizedTime) (value : Raw) → IsSecondOf client_moment second → client_keys.public_value client_words ≡ Some value
@@ -220,5 +220,6 @@ module _ (client_keys realm_keys : KeysRecord) (certificate : Bytes) (client_mom
       agreed = agreed;
       is_agreed = (pkinit_table realm_keys trust call bytes).one result (Ok agreed) gives given;
       same_secret = refl;
+      no_kdf = refl;
       is_reply = record { signed = reply_signed.0; is_signed = reply_signed.1; encoding = refl };
     }

@@ -218,12 +218,12 @@ module _ (client_keys realm_keys : KeysRecord) (certificate : Bytes) (trust : Tr
       let replying = pk_as_rep realm_keys own nonce call.words in
       let near =
       past_refuse {T = AgreedRecord} {E = Code} (is_far call.skew call.moment asked.moment) KRB_AP_ERR_SKEW
-      (need (realm_keys.agree (WholeValue is.value) words) KDC_ERR_KEY_TOO_WEAK (λ secret. and_then replying (λ reply. done (Ok (record { secret = secret; reply = reply }))))) agreed x in
+      (need (realm_keys.agree (WholeValue is.value) words) KDC_ERR_KEY_TOO_WEAK (λ secret. and_then replying (λ reply. done (Ok (record { secret = secret; kdf = None; reply = reply }))))) agreed x in
       let secret =
       needed {A = Bytes} {T = AgreedRecord} {E = Code} (realm_keys.agree (WholeValue is.value) words) KDC_ERR_KEY_TOO_WEAK
-      (λ secret. and_then replying (λ reply. done (Ok (record { secret = secret; reply = reply })))) agreed near.1 in
-      let reply = went_on {A = Bytes} {T = AgreedRecord} {E = Code} replying (λ reply. done (Ok (record { secret = secret.0; reply = reply }))) agreed secret.2 in
-      let same : agreed ≡ record { secret = secret.0; reply = reply.0 } = same_parts (Ok agreed) (Ok (record { secret = secret.0; reply = reply.0 })) reply.2 in
+      (λ secret. and_then replying (λ reply. done (Ok (record { secret = secret; kdf = None; reply = reply })))) agreed near.1 in
+      let reply = went_on {A = Bytes} {T = AgreedRecord} {E = Code} replying (λ reply. done (Ok (record { secret = secret.0; kdf = None; reply = reply }))) agreed secret.2 in
+      let same : agreed ≡ record { secret = secret.0; kdf = None; reply = reply.0 } = same_parts (Ok agreed) (Ok (record { secret = secret.0; kdf = None; reply = reply.0 })) reply.2 in
       let element =
       needed {A = Raw} {T = Bytes} {E = Code} (realm_keys.public_value words) KRB_ERR_GENERIC
       (λ element. ask (IsPublicKey element) (sole_public_key element) (done (Err KRB_ERR_GENERIC)) (λ own_key.

@@ -1,5 +1,5 @@
 -- What client and realm have to have in common to agree on a secret by certificate, and what they agree on (RFC 4556, section 3.2).
-use Rattle.std.specs.Prelude.{◌≡◌, ℤ, true, Some, Result, Ok}
+use Rattle.std.specs.Prelude.{◌≡◌, ℤ, true, None, Some, Result, Ok}
 use Rattle.asn1_leaves.specs.declared.date.GeneralizedTime.{GeneralizedTime}
 use Rattle.picky_asn1_der.specs.Raw.{Raw}
 use Rattle.picky_asn1.specs.BitString.{Bits}
@@ -76,4 +76,5 @@ pub record IsGrantedAgreement (realm_keys : KeysRecord) (certificate : Bytes) (v
   pub agreed : AgreedRecord
   pub is_agreed : result ≡ Ok agreed
   pub same_secret : agreed.secret ≡ secret
+  pub no_kdf : agreed.kdf ≡ None
   pub is_reply : IsAgreedReply realm_keys certificate value nonce agreed.reply
