@@ -1,7 +1,8 @@
 //! Replays vectors of standards and values of other implementations, and compares each with what is made here. `keys`: powers, keys,
 //! signatures and Diffie-Hellman agreements of Python and openssl, and forged signatures. `sealing`: encryption, checksums and keys of the
-//! suites. `signed`: signed data, its signers, and keys in files and certificates. And it compares AES by tables of words with AES by the
-//! steps of FIPS 197.
+//! suites. `signed`: signed data, its signers, and keys in files and certificates. `packs`: AuthPacks with further fields. `general`:
+//! signed data as stock clients send it. `policies`: requests by certificate at realms with a policy. And it compares AES by tables of words
+//! with AES by the steps of FIPS 197.
 //!
 //! Then it replays calls of what holds keys: contexts, initiators, acceptors and services, and password changes. It compares each answer with
 //! that of an independent writer, of an independent implementation or of MIT's library.
@@ -15,14 +16,18 @@ mod agreement;
 mod agreements;
 mod blocks;
 mod contexts;
+mod derivation;
 mod des;
 mod digests;
+mod general;
 mod keys;
 mod numbers;
+mod packs;
 mod password_changes;
 mod password_frames;
 mod password_replies;
 mod plain;
+mod policies;
 mod primes;
 mod row;
 mod sealing;
@@ -68,6 +73,9 @@ fn replay_recorded(rt: &HostRuntime) -> anyhow::Result<()> {
     sealing::replay_sealing(rt)?;
     blocks::compare_aes(rt)?;
     signed::replay_signed(rt)?;
+    packs::replay_packs(rt)?;
+    general::replay_general(rt)?;
+    policies::replay_policies(rt)?;
     replay_services(rt)
 }
 

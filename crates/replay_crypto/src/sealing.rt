@@ -1,7 +1,7 @@
 //! Encryption, checksums, digests and keys of the suites.
 
 use crate::row::{Vector, vector_of};
-use crate::{aes, agreement, des, digests, suites};
+use crate::{aes, agreement, derivation, des, digests, suites};
 use std::alloc::Global;
 use test_support::rows::replay;
 use test_support::{Row, Rows};
@@ -16,6 +16,7 @@ pub(crate) fn replay_sealing(rt: &HostRuntime) -> anyhow::Result<()> {
         "sealing_aes.txt",
         "sealing_des3.txt",
         "sealing_sha2.txt",
+        "agility.txt",
     ] {
         replay(rt, &mut Sealing, file)?;
     }
@@ -46,6 +47,8 @@ fn is_made(alloc: Global, row: &Vector<'_>) -> bool {
         "hmac" => digests::is_fitted_code(alloc, row),
         "pbkdf2" => digests::is_password_key(alloc, row),
         "agree" => agreement::is_agreed(alloc, row),
+        "kdf" => derivation::is_derived(alloc, row),
+        "reply" => derivation::is_reply(alloc, row),
         "nfold" => digests::is_folded(alloc, row),
         "des3" => des::is_chained(alloc, row),
         "des3-seed" => des::is_seeded(alloc, row),
