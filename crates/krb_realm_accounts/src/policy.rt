@@ -12,6 +12,11 @@ pub struct Policy {
     pub proxiable: bool,
     /// How many seconds after its starttime a ticket may be renewed at most (RFC 4120, section 2.3). By 0 no ticket is renewable.
     pub renewable_life: u32,
+    /// Requests by certificate are taken with algorithm agility (RFC 8636): with further fields in AuthPack, and signed data by SHA-256,
+    /// SHA-384 or SHA-512 of any signer that it names.
+    pub pkinit_agility: bool,
+    /// A client with algorithm agility may sign by SHA-1, too. A certificate is never taken so.
+    pub pkinit_sha1: bool,
 }
 
 /// The policy of settings in which nobody sets one.
@@ -20,4 +25,6 @@ pub const NO_POLICY: Policy = Policy {
     forwardable: false,
     proxiable: false,
     renewable_life: 0,
+    pkinit_agility: false,
+    pkinit_sha1: false,
 };

@@ -16,7 +16,8 @@ impl Equality for Moment {
 }
 
 impl Equality for Policy {
-    ghost is_equality = { fields policy_type (both booleans_Decides (both booleans_Decides (both booleans_Decides (last unsigned_Decides)))) };
+    ghost is_equality = { fields policy_type (both booleans_Decides (both booleans_Decides (both booleans_Decides (both unsigned_Decides
+        (both booleans_Decides (last booleans_Decides)))))) };
 }
 
 impl Equality for Settings {
