@@ -34,14 +34,18 @@ unfolding words_text
 plain-words policy is few =
     let life : ℕ = policy.renewable_life in
     let last : List ℕ = before is (codes "pkinit") [] in
-    let renewable : List ℕ = before (nat_lt 0 life) (renewable_word life) last in
+    let sha1 : List ℕ = before policy.pkinit_sha1 (codes "pkinit-sha1") last in
+    let agility : List ℕ = before policy.pkinit_agility (codes "pkinit-agility") sha1 in
+    let renewable : List ℕ = before (nat_lt 0 life) (renewable_word life) agility in
     let proxiable : List ℕ = before policy.proxiable (codes "proxiable") renewable in
     let forwardable : List ℕ = before policy.forwardable (codes "forwardable") proxiable in
     let seconds : is_all_plain (renewable_word life) ≡ true = all-both is_plain (codes "renewable=") (decimal life) refl (plain-decimal life (omega arith)) in
     plain-before policy.limits_des3 (codes "limits-des3") forwardable refl
     (plain-before policy.forwardable (codes "forwardable") proxiable refl
     (plain-before policy.proxiable (codes "proxiable") renewable refl
-    (plain-before (nat_lt 0 life) (renewable_word life) last seconds (plain-before is (codes "pkinit") [] refl refl))))
+    (plain-before (nat_lt 0 life) (renewable_word life) agility seconds
+    (plain-before policy.pkinit_agility (codes "pkinit-agility") sha1 refl
+    (plain-before policy.pkinit_sha1 (codes "pkinit-sha1") last refl (plain-before is (codes "pkinit") [] refl refl))))))
 
 -- each octet of a word is above a comma
 abbrev is_comma : ℕ → Bool
@@ -89,8 +93,14 @@ in-before true (c ∷ word) (d ∷ text) words some worded are =
 abbrev from_pkinit : Bool → List (List ℕ)
 from_pkinit is = word_if is (codes "pkinit") ++ []
 
+abbrev from_sha1 : Policy → Bool → List (List ℕ)
+from_sha1 policy is = word_if policy.pkinit_sha1 (codes "pkinit-sha1") ++ from_pkinit is
+
+abbrev from_agility : Policy → Bool → List (List ℕ)
+from_agility policy is = word_if policy.pkinit_agility (codes "pkinit-agility") ++ from_sha1 policy is
+
 abbrev from_renewable : Policy → Bool → List (List ℕ)
-from_renewable policy is = word_if (nat_lt 0 policy.renewable_life) (renewable_word policy.renewable_life) ++ from_pkinit is
+from_renewable policy is = word_if (nat_lt 0 policy.renewable_life) (renewable_word policy.renewable_life) ++ from_agility policy is
 
 abbrev from_proxiable : Policy → Bool → List (List ℕ)
 from_proxiable policy is = word_if policy.proxiable (codes "proxiable") ++ from_renewable policy is
@@ -106,21 +116,35 @@ unfolding words_text
 words-in policy is few =
     let life : ℕ = policy.renewable_life in
     let last : List ℕ = before is (codes "pkinit") [] in
-    let renewable : List ℕ = before (nat_lt 0 life) (renewable_word life) last in
+    let sha1 : List ℕ = before policy.pkinit_sha1 (codes "pkinit-sha1") last in
+    let agility : List ℕ = before policy.pkinit_agility (codes "pkinit-agility") sha1 in
+    let renewable : List ℕ = before (nat_lt 0 life) (renewable_word life) agility in
     let proxiable : List ℕ = before policy.proxiable (codes "proxiable") renewable in
     let forwardable : List ℕ = before policy.forwardable (codes "forwardable") proxiable in
     let seconds : list_all is_worded (renewable_word life) ≡ true = all-both is_worded (codes "renewable=") (decimal life) refl (worded-decimal life (omega arith)) in
     in-before policy.limits_des3 (codes "limits-des3") forwardable (from_forwardable policy is) tt refl
     (in-before policy.forwardable (codes "forwardable") proxiable (from_proxiable policy is) tt refl
     (in-before policy.proxiable (codes "proxiable") renewable (from_renewable policy is) tt refl
-    (in-before (nat_lt 0 life) (renewable_word life) last (from_pkinit is) tt seconds (in-before is (codes "pkinit") [] [] tt refl refl))))
+    (in-before (nat_lt 0 life) (renewable_word life) agility (from_agility policy is) tt seconds
+    (in-before policy.pkinit_agility (codes "pkinit-agility") sha1 (from_sha1 policy is) tt refl
+    (in-before policy.pkinit_sha1 (codes "pkinit-sha1") last (from_pkinit is) tt refl (in-before is (codes "pkinit") [] [] tt refl refl))))))
 
 -- each word is read behind those before it
-abbrev said : Bool → Bool → Bool → ℕ → Words
-said limits forwardable proxiable life = record {
-  policy = record { limits_des3 = limits; forwardable = forwardable; proxiable = proxiable; renewable_life = life };
+abbrev agreed : Bool → Bool → Bool → ℕ → Bool → Bool → Words
+agreed limits forwardable proxiable life agile sha1 = record {
+  policy = record {
+    limits_des3 = limits;
+    forwardable = forwardable;
+    proxiable = proxiable;
+    renewable_life = life;
+    pkinit_agility = agile;
+    pkinit_sha1 = sha1;
+  };
   is_certified = false;
 }
+
+abbrev said : Bool → Bool → Bool → ℕ → Words
+said limits forwardable proxiable life = agreed limits forwardable proxiable life false false
 
 limits-step : (is : Bool) (more : List (List ℕ)) → words_behind no_words (word_if is (codes "limits-des3") ++ more) ≡ words_behind (said is false false 0) more
 unfolding next_words
@@ -158,6 +182,18 @@ life-step limits forwardable proxiable life more few = by (nat_lt 0 life) refl
 abbrev pub says : Policy → Bool → Words
 says policy is = record { policy = policy; is_certified = is }
 
+agility-step : (limits forwardable proxiable : Bool) (life : ℕ) (is : Bool) (more : List (List ℕ))
+    → words_behind (said limits forwardable proxiable life) (word_if is (codes "pkinit-agility") ++ more) ≡ words_behind (agreed limits forwardable proxiable life is false) more
+unfolding next_words
+agility-step limits forwardable proxiable life true more = refl
+agility-step limits forwardable proxiable life false more = refl
+
+sha1-step : (limits forwardable proxiable : Bool) (life : ℕ) (agile is : Bool) (more : List (List ℕ))
+    → words_behind (agreed limits forwardable proxiable life agile false) (word_if is (codes "pkinit-sha1") ++ more) ≡ words_behind (agreed limits forwardable proxiable life agile is) more
+unfolding next_words
+sha1-step limits forwardable proxiable life agile true more = refl
+sha1-step limits forwardable proxiable life agile false more = refl
+
 certify-step : (policy : Policy) (is : Bool) → words_behind (says policy false) (from_pkinit is) ≡ Ok (says policy is)
 unfolding next_words
 certify-step policy true = refl
@@ -168,7 +204,9 @@ words-again policy is few =
     limits-step policy.limits_des3 (from_forwardable policy is)
     ∙ forward-step policy.limits_des3 policy.forwardable (from_proxiable policy is)
     ∙ proxy-step policy.limits_des3 policy.forwardable policy.proxiable (from_renewable policy is)
-    ∙ life-step policy.limits_des3 policy.forwardable policy.proxiable policy.renewable_life (from_pkinit is) few
+    ∙ life-step policy.limits_des3 policy.forwardable policy.proxiable policy.renewable_life (from_agility policy is) few
+    ∙ agility-step policy.limits_des3 policy.forwardable policy.proxiable policy.renewable_life policy.pkinit_agility (from_sha1 policy is)
+    ∙ sha1-step policy.limits_des3 policy.forwardable policy.proxiable policy.renewable_life policy.pkinit_agility policy.pkinit_sha1 (from_pkinit is)
     ∙ certify-step policy is
 
 -- a text of words is read as them, and there is no text where nothing is set

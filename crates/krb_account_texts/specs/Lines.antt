@@ -43,7 +43,8 @@ renewable_word life = codes "renewable=" ++ decimal life
 unfoldable pub words_text : Policy → Bool → List ℕ
 words_text policy is_certified =
     before policy.limits_des3 (codes "limits-des3") (before policy.forwardable (codes "forwardable") (before policy.proxiable (codes "proxiable")
-    (before (nat_lt 0 policy.renewable_life) (renewable_word policy.renewable_life) (before is_certified (codes "pkinit") []))))
+    (before (nat_lt 0 policy.renewable_life) (renewable_word policy.renewable_life) (before policy.pkinit_agility (codes "pkinit-agility")
+    (before policy.pkinit_sha1 (codes "pkinit-sha1") (before is_certified (codes "pkinit") []))))))
 
 -- What follows in the realm's line, of words and octets: nothing where there is no word, and else both.
 abbrev pub further_by : List ℕ → List ℕ → List ℕ

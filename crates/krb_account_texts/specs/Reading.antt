@@ -118,12 +118,18 @@ abbrev pub no_words : Words
 no_words = record { policy = NO_POLICY; is_certified = false }
 
 -- A word may follow where neither it nor a later one is there. The words are `limits-des3`, `forwardable`, `proxiable`, `renewable=` with
--- seconds, and `pkinit`, in this order.
+-- seconds, `pkinit-agility`, `pkinit-sha1` and `pkinit`, in this order.
 abbrev pub may_certify : Words → Bool
 may_certify words = not words.is_certified
 
+abbrev pub may_take_sha1 : Words → Bool
+may_take_sha1 words = not words.policy.pkinit_sha1 && may_certify words
+
+abbrev pub may_be_agile : Words → Bool
+may_be_agile words = not words.policy.pkinit_agility && may_take_sha1 words
+
 abbrev pub may_renew : Words → Bool
-may_renew words = (words.policy.renewable_life == 0) && may_certify words
+may_renew words = (words.policy.renewable_life == 0) && may_be_agile words
 
 abbrev pub may_proxy : Words → Bool
 may_proxy words = not words.policy.proxiable && may_renew words
@@ -146,6 +152,12 @@ proxied words = record { policy = record words.policy { proxiable = true }; is_c
 
 abbrev pub renewed : ℕ → Words → Words
 renewed life words = record { policy = record words.policy { renewable_life = life }; is_certified = words.is_certified }
+
+abbrev pub agile : Words → Words
+agile words = record { policy = record words.policy { pkinit_agility = true }; is_certified = words.is_certified }
+
+abbrev pub with_sha1 : Words → Words
+with_sha1 words = record { policy = record words.policy { pkinit_sha1 = true }; is_certified = words.is_certified }
 
 abbrev pub certified : Words → Words
 certified words = record { policy = words.policy; is_certified = true }
@@ -182,8 +194,10 @@ next_words words word =
     if pointwise nat_eq word (codes "limits-des3") then if_may (may_limit words) (limited words)
     else (if pointwise nat_eq word (codes "forwardable") then if_may (may_forward words) (forwarded words)
     else (if pointwise nat_eq word (codes "proxiable") then if_may (may_proxy words) (proxied words)
+    else (if pointwise nat_eq word (codes "pkinit-agility") then if_may (may_be_agile words) (agile words)
+    else (if pointwise nat_eq word (codes "pkinit-sha1") then if_may (may_take_sha1 words) (with_sha1 words)
     else (if pointwise nat_eq word (codes "pkinit") then if_may (may_certify words) (certified words)
-    else (if is_renewable word then with_life words (drop (length renewable_mark) word) else Err fault.Words))))
+    else (if is_renewable word then with_life words (drop (length renewable_mark) word) else Err fault.Words))))))
 
 -- The words with each of these behind them.
 abbrev pub words_behind : Words → List (List ℕ) → Result Words LineFault

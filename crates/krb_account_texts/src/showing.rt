@@ -91,6 +91,8 @@ fn words_text(alloc: Global, policy: Policy, is_certified: bool) -> Result<Strin
     ensures { IfOk result (λ text. string_bytes text ≡ words_text policy is_certified) }
 {
     let text = before(alloc, is_certified, "pkinit", String::new(alloc))?;
+    let text = before(alloc, policy.pkinit_sha1, "pkinit-sha1", text)?;
+    let text = before(alloc, policy.pkinit_agility, "pkinit-agility", text)?;
     let text = before_life(alloc, policy.renewable_life, text)?;
     let text = before(alloc, policy.proxiable, "proxiable", text)?;
     let text = before(alloc, policy.forwardable, "forwardable", text)?;

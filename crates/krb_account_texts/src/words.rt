@@ -1,7 +1,7 @@
 //! The words of policy and of logins by certificate in a realm's line.
 ghost use Rattle.std.specs.Prelude.{◌≡◌, ◌==◌, true, false, drop, length, map, IfOk, MatchOption};
 ghost use Rattle.std.specs.List.{slice_split};
-ghost use Rattle.krb_account_texts.specs.Reading.{certified, forwarded, if_may, is_renewable, limited, may_certify, may_forward, may_limit, may_proxy, may_renew, next_words, no_words, proxied, renewable_mark, renewed, with_life, words_behind, words_in};
+ghost use Rattle.krb_account_texts.specs.Reading.{agile, certified, forwarded, if_may, is_renewable, limited, may_be_agile, may_certify, may_forward, may_limit, may_proxy, may_renew, may_take_sha1, next_words, no_words, proxied, renewable_mark, renewed, with_life, with_sha1, words_behind, words_in};
 ghost use Rattle.krb_account_texts.specs.Steps.{IsAside};
 
 use crate::fault::LineFault;
@@ -62,6 +62,12 @@ fn next_words(words: Words, word: &str) -> Result<Words, LineFault>
     if word == "proxiable" {
         return if_may(may_proxy(words), proxied(words));
     }
+    if word == "pkinit-agility" {
+        return if_may(may_be_agile(words), agile(words));
+    }
+    if word == "pkinit-sha1" {
+        return if_may(may_take_sha1(words), with_sha1(words));
+    }
     if word == "pkinit" {
         return if_may(may_certify(words), certified(words));
     }
@@ -89,11 +95,25 @@ fn may_certify(words: Words) -> bool
     !words.is_certified
 }
 
-// Whether the word of a greatest renewable life may follow: neither it nor a later one is there.
+// Whether the word `pkinit-sha1` may follow: neither it nor a later one is there.
+fn may_take_sha1(words: Words) -> bool
+    ensures { result ≡ may_take_sha1 words }
+{
+    !words.policy.pkinit_sha1 && may_certify(words)
+}
+
+// The same of the word `pkinit-agility`.
+fn may_be_agile(words: Words) -> bool
+    ensures { result ≡ may_be_agile words }
+{
+    !words.policy.pkinit_agility && may_take_sha1(words)
+}
+
+// The same of the word of a greatest renewable life.
 fn may_renew(words: Words) -> bool
     ensures { result ≡ may_renew words }
 {
-    words.policy.renewable_life == 0 && may_certify(words)
+    words.policy.renewable_life == 0 && may_be_agile(words)
 }
 
 // The same of the word `proxiable`.
@@ -145,6 +165,28 @@ fn proxied(words: Words) -> Words
 {
     let policy = Policy {
         proxiable: true,
+        ..words.policy
+    };
+    Words { policy, ..words }
+}
+
+// The words with `pkinit-agility`.
+fn agile(words: Words) -> Words
+    ensures { result ≡ agile words }
+{
+    let policy = Policy {
+        pkinit_agility: true,
+        ..words.policy
+    };
+    Words { policy, ..words }
+}
+
+// The words with `pkinit-sha1`.
+fn with_sha1(words: Words) -> Words
+    ensures { result ≡ with_sha1 words }
+{
+    let policy = Policy {
+        pkinit_sha1: true,
         ..words.policy
     };
     Words { policy, ..words }
