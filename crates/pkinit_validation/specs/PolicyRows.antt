@@ -1,5 +1,5 @@
 -- The rows of the AS exchange's table by which a realm with a policy judges requests by certificate (RFC 4556, section 3.2.2).
-use Rattle.std.specs.Prelude.{Option, None, Some}
+use Rattle.std.specs.Prelude.{◌≡◌, Option, None, Some, refl}
 use Rattle.std.specs.Option.{is_some}
 use Rattle.x509_keys.specs.KeyFunctions.{KeysRecord}
 use Rattle.krb_kdc_exchanges.specs.Rows.{PkinitRows}
@@ -21,3 +21,8 @@ general_rows policy trust keys = record {
 abbrev pub policy_rows : Option GeneralPolicy → TrustRecord → KeysRecord → PkinitRows
 policy_rows None trust keys = pkinit_rows trust keys
 policy_rows (Some policy) trust keys = general_rows policy trust keys
+
+-- PA-PK-AS-REQ is offered by the anchor alone
+pub same_offer : (policy : Option GeneralPolicy) (trust : TrustRecord) (keys : KeysRecord) → (policy_rows policy trust keys).offered ≡ is_some trust.anchor
+same_offer None trust keys = refl
+same_offer (Some policy) trust keys = refl
