@@ -57,53 +57,85 @@ four_times : (is : Bool) → number_if is 4 ≡ 4 * one_if is
 four_times true = refl
 four_times false = refl
 
+eight_times : (is : Bool) → number_if is 8 ≡ 8 * one_if is
+eight_times true = refl
+eight_times false = refl
+
+many_times : (is : Bool) → number_if is 536870912 ≡ 536870912 * one_if is
+many_times true = refl
+many_times false = refl
+
 bit_is : (is : Bool) (bit : ℕ) → bit ≡ one_if is → (bit == 1) ≡ is
 bit_is true bit e = eq-eqb bit 1 e
 bit_is false bit e = subst (λ b. (b == 1) ≡ false) (sym e) refl
 
-module _ (limits forwardable proxiable : Bool) (life : ℕ) where
+module _ (limits forwardable proxiable agility sha1 : Bool) (life : ℕ) where
   abbrev added : ℕ
-  added = number_if limits 1 + number_if forwardable 2 + number_if proxiable 4 + life * 16
+  added = number_if limits 1 + number_if forwardable 2 + number_if proxiable 4 + number_if agility 8 + life * 16 + number_if sha1 536870912
 
-  added_is : added ≡ one_if limits + 2 * one_if forwardable + 4 * one_if proxiable + life * 16
-  added_is = omega (arith, twice forwardable, four_times proxiable)
+  added_is : added ≡ one_if limits + 2 * one_if forwardable + 4 * one_if proxiable + 8 * one_if agility + life * 16 + 536870912 * one_if sha1
+  added_is = omega (arith, twice forwardable, four_times proxiable, eight_times agility, many_times sha1)
 
   first_bit : added / 1 % 2 ≡ one_if limits
-  first_bit = omega (arith, added_is, one_most limits, one_most forwardable, one_most proxiable)
+  first_bit = omega (arith, added_is, one_most limits, one_most forwardable, one_most proxiable, one_most agility, one_most sha1)
 
   second_bit : added / 2 % 2 ≡ one_if forwardable
-  second_bit = omega (arith, added_is, one_most limits, one_most forwardable, one_most proxiable)
+  second_bit = omega (arith, added_is, one_most limits, one_most forwardable, one_most proxiable, one_most agility, one_most sha1)
 
   third_bit : added / 4 % 2 ≡ one_if proxiable
-  third_bit = omega (arith, added_is, one_most limits, one_most forwardable, one_most proxiable)
+  third_bit = omega (arith, added_is, one_most limits, one_most forwardable, one_most proxiable, one_most agility, one_most sha1)
 
-  no_fourth : added / 8 % 2 ≡ 0
-  no_fourth = omega (arith, added_is, one_most limits, one_most forwardable, one_most proxiable)
+  fourth_bit : added / 8 % 2 ≡ one_if agility
+  fourth_bit = omega (arith, added_is, one_most limits, one_most forwardable, one_most proxiable, one_most agility, one_most sha1)
 
-  seconds_left : added / 16 ≡ life
-  seconds_left = omega (arith, added_is, one_most limits, one_most forwardable, one_most proxiable)
+  few_below : life ≤ 31536000 → added % 536870912 ≡ one_if limits + 2 * one_if forwardable + 4 * one_if proxiable + 8 * one_if agility + life * 16
+  few_below few = omega (arith, added_is, few, one_most limits, one_most forwardable, one_most proxiable, one_most agility, one_most sha1)
+
+  seconds_left : life ≤ 31536000 → added % 536870912 / 16 ≡ life
+  seconds_left few = omega (arith, few_below few, one_most limits, one_most forwardable, one_most proxiable, one_most agility)
+
+  last_left : life ≤ 31536000 → added / 536870912 ≡ one_if sha1
+  last_left few = omega (arith, added_is, few, one_most limits, one_most forwardable, one_most proxiable, one_most agility, one_most sha1)
+
+  last_bit : life ≤ 31536000 → added / 536870912 % 2 ≡ one_if sha1
+  last_bit few = omega (arith, last_left few, one_most sha1)
 
   few_added : life ≤ 31536000 → added < 2 ^ 32
-  few_added few = omega (arith, added_is, few, one_most limits, one_most forwardable, one_most proxiable)
+  few_added few = omega (arith, added_is, few, one_most limits, one_most forwardable, one_most proxiable, one_most agility, one_most sha1)
 
-policy_again : (policy : Policy) → policy_of (policy_number policy) ≡ policy
-policy_again policy = λ i. record {
-  limits_des3 = bit_is policy.limits_des3 (policy_number policy / 1 % 2) (first_bit policy.limits_des3 policy.forwardable policy.proxiable policy.renewable_life) i;
-  forwardable = bit_is policy.forwardable (policy_number policy / 2 % 2) (second_bit policy.limits_des3 policy.forwardable policy.proxiable policy.renewable_life) i;
-  proxiable = bit_is policy.proxiable (policy_number policy / 4 % 2) (third_bit policy.limits_des3 policy.forwardable policy.proxiable policy.renewable_life) i;
-  renewable_life = seconds_left policy.limits_des3 policy.forwardable policy.proxiable policy.renewable_life i;
-}
+module _ (policy : Policy) (is : has_number policy ≡ true) where
+  few_seconds : policy.renewable_life ≤ 31536000
+  few_seconds = leb-true policy.renewable_life 31536000 is
 
-policy_known : (policy : Policy) → has_number policy ≡ true → is_policy (policy_number policy) ≡ true
-policy_known policy is =
-    let life : ℕ = policy.renewable_life in
-    let few : life ≤ 31536000 = leb-true life 31536000 is in
-    let seconds : policy_number policy / 16 ≡ life = seconds_left policy.limits_des3 policy.forwardable policy.proxiable life in
-    rw (eq-eqb (policy_number policy / 8 % 2) 0 (no_fourth policy.limits_des3 policy.forwardable policy.proxiable life), le-leb (policy_number policy / 16) 31536000 (omega (arith, seconds, few))) refl
+  policy_again : policy_of (policy_number policy) ≡ policy
+  policy_again = λ i. record {
+    limits_des3 = bit_is policy.limits_des3 (policy_number policy / 1 % 2)
+        (first_bit policy.limits_des3 policy.forwardable policy.proxiable policy.pkinit_agility policy.pkinit_sha1 policy.renewable_life) i;
+    forwardable = bit_is policy.forwardable (policy_number policy / 2 % 2)
+        (second_bit policy.limits_des3 policy.forwardable policy.proxiable policy.pkinit_agility policy.pkinit_sha1 policy.renewable_life) i;
+    proxiable = bit_is policy.proxiable (policy_number policy / 4 % 2)
+        (third_bit policy.limits_des3 policy.forwardable policy.proxiable policy.pkinit_agility policy.pkinit_sha1 policy.renewable_life) i;
+    renewable_life = seconds_left policy.limits_des3 policy.forwardable policy.proxiable policy.pkinit_agility policy.pkinit_sha1 policy.renewable_life few_seconds i;
+    pkinit_agility = bit_is policy.pkinit_agility (policy_number policy / 8 % 2)
+        (fourth_bit policy.limits_des3 policy.forwardable policy.proxiable policy.pkinit_agility policy.pkinit_sha1 policy.renewable_life) i;
+    pkinit_sha1 = bit_is policy.pkinit_sha1 (policy_number policy / 536870912 % 2)
+        (last_bit policy.limits_des3 policy.forwardable policy.proxiable policy.pkinit_agility policy.pkinit_sha1 policy.renewable_life few_seconds) i;
+  }
 
-policy_small : (policy : Policy) → has_number policy ≡ true → policy_number policy < 2 ^ 32
-policy_small policy is =
-    few_added policy.limits_des3 policy.forwardable policy.proxiable policy.renewable_life (leb-true policy.renewable_life 31536000 is)
+  policy_known : is_policy (policy_number policy) ≡ true
+  policy_known =
+      let life : ℕ = policy.renewable_life in
+      let seconds : policy_number policy % 536870912 / 16 ≡ life =
+      seconds_left policy.limits_des3 policy.forwardable policy.proxiable policy.pkinit_agility policy.pkinit_sha1 life few_seconds in
+      let last : policy_number policy / 536870912 ≡ one_if policy.pkinit_sha1 =
+      last_left policy.limits_des3 policy.forwardable policy.proxiable policy.pkinit_agility policy.pkinit_sha1 life few_seconds in
+      rw (
+        le-leb (policy_number policy / 536870912) 1 (omega (arith, last, one_most policy.pkinit_sha1)),
+        le-leb (policy_number policy % 536870912 / 16) 31536000 (omega (arith, seconds, few_seconds)),
+      ) refl
+
+  policy_small : policy_number policy < 2 ^ 32
+  policy_small = few_added policy.limits_des3 policy.forwardable policy.proxiable policy.pkinit_agility policy.pkinit_sha1 policy.renewable_life few_seconds
 
 -- What logins by certificate are answered by is read as it was written, and fits the record.
 pkinit_again : (pkinit : Option (List ℕ)) → is_pkinit pkinit ≡ true → pkinit_in (pkinit_octets pkinit) ≡ pkinit
@@ -164,4 +196,4 @@ realm_as_written realm is are =
     (little_number-reads_back 4 skew (le32 lifetime ++ (le32 size ++ (le32 policy ++ (own ++ realm.name)))) (omega (arith, are.0)))
     (little_number-reads_back 4 lifetime (le32 size ++ (le32 policy ++ (own ++ realm.name))) (omega (arith, are.1.1)))
     (behind front own realm.name) (between front own realm.name)
-    ∙ rw (settled skew lifetime policy are known, both.0, pkinit_again realm.pkinit both.1, policy_again realm.settings.policy) refl
+    ∙ rw (settled skew lifetime policy are known, both.0, pkinit_again realm.pkinit both.1, policy_again realm.settings.policy three.1) refl

@@ -1,5 +1,5 @@
 -- What logins by certificate are answered by, in DER: the KDC's certificate, its private key, and the anchor, one after the other.
-use Rattle.std.specs.Prelude.{◌≡◌, ◌≢◌, ◌⊎◌, ℕ, zero, suc, List, [], ◌∷◌, Some}
+use Rattle.std.specs.Prelude.{◌≡◌, ◌≢◌, ◌⊎◌, ℕ, zero, suc, List, [], ◌∷◌, Option, None, Some, if◌then◌else◌}
 use Rattle.picky_asn1.specs.Bytes.{Bytes}
 use Rattle.asn1_der.specs.Octets.{sequence_octet}
 use Rattle.asn1_der.specs.Tagged.{tagged_tree}
@@ -13,7 +13,9 @@ use Rattle.x509_keys.specs.declared.rsa_private_key.RsaPrivateKey.{RsaPrivateKey
 use Rattle.x509_keys.specs.contracts.rsa_private_key.RsaPrivateKeyTagged.TheImpl as private_key_impl
 use Rattle.public_key_cryptography.specs.declared.group.Group.TheVariants.{Modp2048}
 use Rattle.krb_kdc_exchanges.specs.Rows.{PkinitRows}
-use Rattle.pkinit_validation.specs.PkinitRows.{pkinit_rows}
+use Rattle.pkinit_validation.specs.PolicyRows.{policy_rows}
+use Rattle.pkinit_validation.specs.declared.policies.policy.GeneralPolicy.{GeneralPolicy}
+use Rattle.krb_realm_accounts.specs.declared.policy.Policy.{Policy}
 use Rattle.pkinit_validation.specs.Trust.{TrustRecord}
 use Rattle.pkinit_validation.specs.Anchors.{AnchorRecord, anchor_of}
 use Rattle.rsa_keys.specs.Functions.{IsPublicPart, rsa_functions}
@@ -114,6 +116,10 @@ IsUnusable octets fault = (certificate : Bytes) × (key : Bytes) × (anchor : By
 abbrev pub trust_in : PkinitMeans → TrustRecord
 trust_in means = record { anchor = Some means.anchor; certificate = Some means.certificate.items }
 
+-- What the realm takes beyond the rows of RFC 4556: nothing without algorithm agility.
+abbrev pub general_policy : Policy → Option GeneralPolicy
+general_policy policy = if policy.pkinit_agility then Some (record { takes_sha1 = policy.pkinit_sha1 }) else None
+
 -- The rows by which requests by certificate are judged (RFC 4556, section 3.2.2).
-abbrev pub rows_of : PkinitMeans → PkinitRows
-rows_of means = pkinit_rows (trust_in means) (rsa_functions means.keys.group means.keys.own)
+abbrev pub rows_of : Option GeneralPolicy → PkinitMeans → PkinitRows
+rows_of policy means = policy_rows policy (trust_in means) (rsa_functions means.keys.group means.keys.own)

@@ -2,15 +2,16 @@
 -- seconds, octets 9 to 12 how many octets logins by certificate are answered by, octets 13 to 16 the policy, then those octets, and the
 -- realm's name up to the end. Of each number the lowest octet is the first. Without such octets no login by certificate is answered.
 -- The policy is 0 where none is set: 1 where it limits session keys of triple DES, 2 where tickets are forwardable, 4 where they are
--- proxiable, and 16 for each second of the greatest renewable life, added up.
-use Rattle.std.specs.Prelude.{◌≡◌, ℕ, ◌+◌, ◌*◌, ◌/◌, ◌%◌, ◌==◌, ◌||◌, ◌&&◌, nat_le, nat_lt, not, Bool, true, false, List, [], ◌∷◌, ◌++◌, length, drop, take, slice_index, Option, None, Some, refl, if◌then◌else◌}
+-- proxiable, 8 where requests by certificate have algorithm agility, 16 for each second of the greatest renewable life, and 2 to the power
+-- of 29 where clients sign by SHA-1, added up.
+use Rattle.std.specs.Prelude.{◌≡◌, ℕ, ◌+◌, ◌*◌, ◌/◌, ◌%◌, ◌^◌, ◌==◌, ◌||◌, ◌&&◌, nat_le, nat_lt, not, Bool, true, false, List, [], ◌∷◌, ◌++◌, length, drop, take, slice_index, Option, None, Some, refl, if◌then◌else◌}
 use Rattle.byte_streams.specs.Numbers.{le32, le32_at}
 use Rattle.krb_realm_accounts.specs.Names.{is_realm_name}
 use Rattle.krb_realm_accounts.specs.Settings.{SettingsRecord}
 use Rattle.krb_realm_accounts.specs.declared.policy.Policy.{Policy}
 use Rattle.krb_realm_accounts.specs.declared.policy.TheConstants.{NO_POLICY}
 use Rattle.krb_realm_accounts.specs.declared.settings.TheConstants.{LIFETIME_LIMIT, SKEW_LIMIT}
-use Rattle.krb_realm_files.specs.declared.format.TheConstants.{FORWARDABLE, LIMITS_DES3, PKINIT_ROOM, PROXIABLE, REALM_HEAD, RECORD_VERSION, RENEWABLE_SECOND}
+use Rattle.krb_realm_files.specs.declared.format.TheConstants.{FORWARDABLE, LIMITS_DES3, PKINIT_AGILITY, PKINIT_ROOM, PKINIT_SHA1, PROXIABLE, REALM_HEAD, RECORD_VERSION, RENEWABLE_SECOND}
 use Rattle.krb_realm_files.specs.declared.realm_parameters.RealmParameters.{RealmParameters}
 
 -- The policy of a number.
@@ -19,12 +20,14 @@ policy_of number = record {
   limits_des3 = number / LIMITS_DES3 % 2 == 1;
   forwardable = number / FORWARDABLE % 2 == 1;
   proxiable = number / PROXIABLE % 2 == 1;
-  renewable_life = number / RENEWABLE_SECOND;
+  renewable_life = number % PKINIT_SHA1 / RENEWABLE_SECOND;
+  pkinit_agility = number / PKINIT_AGILITY % 2 == 1;
+  pkinit_sha1 = number / PKINIT_SHA1 % 2 == 1;
 }
 
--- The number is a policy's: it hasn't 8, and the greatest renewable life is a year at most.
+-- The number is a policy's: it is below 2 to the power of 30, and the greatest renewable life is a year at most.
 abbrev pub is_policy : ℕ → Bool
-is_policy number = (number / 8 % 2 == 0) && nat_le (number / RENEWABLE_SECOND) LIFETIME_LIMIT
+is_policy number = nat_le (number / PKINIT_SHA1) 1 && nat_le (number % PKINIT_SHA1 / RENEWABLE_SECOND) LIFETIME_LIMIT
 
 -- What a number has for something that is so or isn't.
 abbrev pub number_if : Bool → ℕ → ℕ
@@ -33,7 +36,8 @@ number_if is number = if is then number else 0
 -- The number of a policy.
 abbrev pub policy_number : Policy → ℕ
 policy_number policy =
-    number_if policy.limits_des3 LIMITS_DES3 + number_if policy.forwardable FORWARDABLE + number_if policy.proxiable PROXIABLE + policy.renewable_life * RENEWABLE_SECOND
+    number_if policy.limits_des3 LIMITS_DES3 + number_if policy.forwardable FORWARDABLE + number_if policy.proxiable PROXIABLE
+    + number_if policy.pkinit_agility PKINIT_AGILITY + policy.renewable_life * RENEWABLE_SECOND + number_if policy.pkinit_sha1 PKINIT_SHA1
 
 -- worked: the numbers 0 and 1, which alone a database from before these policies has, are read as they were
 no_policy : policy_of 0 ≡ NO_POLICY
@@ -46,11 +50,15 @@ both_known : (is_policy 0 && is_policy 1) ≡ true
 both_known = refl
 
 -- worked: a week is a policy's renewable life, and more than a year is none's
-a_week : policy_of (16 * 604800 + 7) ≡ record { limits_des3 = true; forwardable = true; proxiable = true; renewable_life = 604800 }
+a_week : policy_of (16 * 604800 + 7) ≡ record { limits_des3 = true; forwardable = true; proxiable = true; renewable_life = 604800; pkinit_agility = false; pkinit_sha1 = false }
 a_week = refl
 
 over_a_year : is_policy (16 * 31536001) ≡ false
 over_a_year = refl
+
+-- worked: both of logins by certificate
+agility_and_sha1 : policy_of (2 ^ 29 + 8) ≡ record NO_POLICY { pkinit_agility = true; pkinit_sha1 = true }
+agility_and_sha1 = refl
 
 -- The settings of this clock skew, this greatest lifetime and the policy of this number, if all are in their ranges.
 abbrev pub settings_of : ℕ → ℕ → ℕ → Option SettingsRecord

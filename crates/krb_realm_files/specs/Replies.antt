@@ -14,7 +14,7 @@ use Rattle.krb_kdc.specs.Seen.{IsTold}
 use Rattle.krb_kdc.specs.Sources.{AsksByCertificate}
 use Rattle.krb_kdc.specs.declared.seen.Seen.{Seen}
 use Rattle.krb_realm_files.specs.Lacks.{IsDamagedFor}
-use Rattle.krb_realm_files.specs.Means.{AreMeansIn, rows_of}
+use Rattle.krb_realm_files.specs.Means.{AreMeansIn, general_policy, rows_of}
 use Rattle.krb_realm_files.specs.RefusedPkinit.{refused_rows}
 use Rattle.krb_realm_files.specs.declared.means.PkinitMeans.{PkinitMeans}
 
@@ -22,8 +22,8 @@ use Rattle.krb_realm_files.specs.declared.means.PkinitMeans.{PkinitMeans}
 -- Or the message asks by certificate, and the reply is one by the octets' means.
 abbrev pub ReplyByOctets : Bytes → CallRecord → Bytes → Option Bytes → Type 0
 ReplyByOctets octets call message reply =
-    ((means : PkinitMeans) → Replies call (rows_of means) message reply)
-    ⊎ (AsksByCertificate message × ((means : PkinitMeans) × AreMeansIn octets means × Replies call (rows_of means) message reply))
+    ((means : PkinitMeans) → Replies call (rows_of (general_policy call.settings.policy) means) message reply)
+    ⊎ (AsksByCertificate message × ((means : PkinitMeans) × AreMeansIn octets means × Replies call (rows_of (general_policy call.settings.policy) means) message reply))
 
 -- A reply of a realm that answers no login by certificate, or one by these octets.
 abbrev pub ReplyBy : Option Bytes → CallRecord → Bytes → Option Bytes → Type 0

@@ -19,8 +19,14 @@ pub const FORWARDABLE: u32 = 2;
 /// What it has for proxiable tickets.
 pub const PROXIABLE: u32 = 4;
 
-/// What it has for each second of the greatest renewable life. No policy has the number 8 between.
+/// What it has for requests by certificate with algorithm agility.
+pub const PKINIT_AGILITY: u32 = 8;
+
+/// What it has for each second of the greatest renewable life.
 pub const RENEWABLE_SECOND: u32 = 16;
+
+/// What it has for clients that sign by SHA-1: 2 to the power of 29. A renewable life of a year comes to less.
+pub const PKINIT_SHA1: u32 = 536_870_912;
 
 /// How many octets a record has at most: enough for the salt of a name of 16 components and of a realm's name, each of 255 characters.
 pub const RECORD_ROOM: usize = 8_192;

@@ -6,7 +6,8 @@ ghost use Rattle.krb_realm_files.specs.Reading.{IsReadAs};
 
 use crate::fault::RecordFault;
 use crate::format::{
-    FORWARDABLE, LIMITS_DES3, PKINIT_ROOM, PROXIABLE, REALM_HEAD, RECORD_VERSION, RENEWABLE_SECOND,
+    FORWARDABLE, LIMITS_DES3, PKINIT_AGILITY, PKINIT_ROOM, PKINIT_SHA1, PROXIABLE, REALM_HEAD,
+    RECORD_VERSION, RENEWABLE_SECOND,
 };
 use crate::realm_parameters::RealmParameters;
 use byte_streams::{u32_le, u32_le_bytes};
@@ -68,7 +69,9 @@ fn policy_of(number: u32) -> Policy
         limits_des3: number / LIMITS_DES3 % 2 == 1,
         forwardable: number / FORWARDABLE % 2 == 1,
         proxiable: number / PROXIABLE % 2 == 1,
-        renewable_life: number / RENEWABLE_SECOND,
+        renewable_life: number % PKINIT_SHA1 / RENEWABLE_SECOND,
+        pkinit_agility: number / PKINIT_AGILITY % 2 == 1,
+        pkinit_sha1: number / PKINIT_SHA1 % 2 == 1,
     }
 }
 
@@ -76,7 +79,8 @@ fn policy_of(number: u32) -> Policy
 fn is_policy(number: u32) -> bool
     ensures { result ≡ is_policy number }
 {
-    number / 8 % 2 == 0 && u64::from(number / RENEWABLE_SECOND) <= LIFETIME_LIMIT
+    number / PKINIT_SHA1 <= 1
+        && u64::from(number % PKINIT_SHA1 / RENEWABLE_SECOND) <= LIFETIME_LIMIT
 }
 
 /// Returns whether the policy has a number: its greatest renewable life is a year at most.
@@ -94,7 +98,9 @@ fn policy_number(policy: Policy) -> u32
     number_if(policy.limits_des3, LIMITS_DES3)
         + number_if(policy.forwardable, FORWARDABLE)
         + number_if(policy.proxiable, PROXIABLE)
+        + number_if(policy.pkinit_agility, PKINIT_AGILITY)
         + policy.renewable_life * RENEWABLE_SECOND
+        + number_if(policy.pkinit_sha1, PKINIT_SHA1)
 }
 
 // Returns what a number has for something that is so or isn't.

@@ -8,6 +8,7 @@ ghost use Rattle.krb_messages.specs.Padata.{padata_in};
 ghost use Rattle.krb_messages.specs.Padata.{first_of};
 ghost use Rattle.krb_realm_files.specs.Faults.{lookup_fault_of};
 ghost use Rattle.krb_realm_files.specs.Lacks.{FailsMeans};
+ghost use Rattle.krb_realm_files.specs.Means.{general_policy};
 ghost use Rattle.krb_realm_files.specs.Sources.{IsGivenBy};
 
 use crate::file_pkinit::FilePkinit;
@@ -19,6 +20,8 @@ use krb_constants::padata_types::PA_PK_AS_REQ;
 use krb_kdc::{LookupFault, PkinitSource};
 use krb_messages::first_in;
 use krb_messages::messages::KdcReq;
+use krb_realm_accounts::Policy;
+use pkinit_validation::policies::GeneralPolicy;
 use std::alloc::Global;
 
 // The realm of a file, whose certificate, key and anchor are read for a request by certificate alone.
@@ -34,29 +37,49 @@ impl<'a> PkinitSource for RealmSource<'a> {
 
     type Given = FilePkinit;
 
-    ghost gives = { λ own. IsGiven own.realm.now.pkinit };
+    ghost gives = { λ own. IsGiven own.realm.now.settings.policy own.realm.now.pkinit };
 
     ghost may_fail = { λ own. FailsMeans own.realm.now.pkinit };
 
     fn pkinit_for(&self, alloc: Global, request: &KdcReq) -> Result<FilePkinit, LookupFault> {
         match &self.realm.pkinit {
-            Some(octets) => given_by(alloc, octets.as_bytes(), request),
+            Some(octets) => {
+                let policy = self.realm.settings.policy();
+                given_by(alloc, policy, octets.as_bytes(), request)
+            }
             None => Ok(FilePkinit::Refused(RefusedPkinit { is_offered: false })),
         }
     }
 }
 
-// Returns what judges this request, where logins by certificate are answered by these octets.
-fn given_by(alloc: Global, octets: &[u8], request: &KdcReq) -> Result<FilePkinit, LookupFault>
-    ensures { MatchResult result (IsGivenBy octets.now request.now) (MayFail (λ fault. IsByCertificate request.now × FailsMeans (Some octets.now) fault)) }
+// Returns what judges this request, where logins by certificate are answered by these octets and this policy.
+fn given_by(
+    alloc: Global,
+    policy: Policy,
+    octets: &[u8],
+    request: &KdcReq,
+) -> Result<FilePkinit, LookupFault>
+    ensures { MatchResult result (IsGivenBy policy octets.now request.now) (MayFail (λ fault. IsByCertificate request.now × FailsMeans (Some octets.now) fault)) }
 {
     if !is_by_certificate(request) {
         return Ok(FilePkinit::Refused(RefusedPkinit { is_offered: true }));
     }
     match means_in(alloc, octets) {
-        Ok(means) => Ok(FilePkinit::Means(means)),
+        Ok(means) => Ok(FilePkinit::Means(means, general_policy(policy))),
         Err(fault) => Err(lookup_fault_of(fault)),
     }
+}
+
+// Returns what the realm takes beyond the rows of RFC 4556.
+fn general_policy(policy: Policy) -> Option<GeneralPolicy>
+    ensures { result ≡ general_policy policy }
+{
+    if !policy.pkinit_agility {
+        return None;
+    }
+    Some(GeneralPolicy {
+        takes_sha1: policy.pkinit_sha1,
+    })
 }
 
 // Whether a request is by certificate: it has PA-PK-AS-REQ (RFC 4556, section 3.2.1).
