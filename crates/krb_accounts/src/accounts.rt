@@ -28,6 +28,8 @@ const NEW_POLICY: Policy = Policy {
     forwardable: false,
     proxiable: false,
     renewable_life: 0,
+    pkinit_agility: false,
+    pkinit_sha1: false,
 };
 
 /// `create [-e SUITE] [-k [random]] TEXT REALM`: makes a text of a realm, with the key of its ticket-granting service.

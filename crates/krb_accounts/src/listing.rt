@@ -117,11 +117,13 @@ fn policy_listed(alloc: Global, policy: Policy) -> Result<String, AllocError> {
     let limits = word_if(policy.limits_des3, "\tlimits-des3");
     let forwardable = word_if(policy.forwardable, "\tforwardable");
     let proxiable = word_if(policy.proxiable, "\tproxiable");
+    let agility = word_if(policy.pkinit_agility, "\tpkinit-agility");
+    let sha1 = word_if(policy.pkinit_sha1, "\tpkinit-sha1");
     let life = policy.renewable_life;
     if life == 0 {
-        return format!(in alloc; "{limits}{forwardable}{proxiable}");
+        return format!(in alloc; "{limits}{forwardable}{proxiable}{agility}{sha1}");
     }
-    format!(in alloc; "{limits}{forwardable}{proxiable}\trenewable={life}")
+    format!(in alloc; "{limits}{forwardable}{proxiable}\trenewable={life}{agility}{sha1}")
 }
 
 // The word, if it is there.
