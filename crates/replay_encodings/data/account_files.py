@@ -78,7 +78,8 @@ def block(name):
     return b"".join(bytes(octet + 1 for octet in component) + b"\0" for component in name)
 
 
-LIMITS_DES3, FORWARDABLE, PROXIABLE, KEPT, RENEWABLE_SECOND = 1, 2, 4, 8, 16  # what a policy's number has; no policy has the fourth
+# What a policy's number has. The last one is behind the greatest renewable life.
+LIMITS_DES3, FORWARDABLE, PROXIABLE, PKINIT_AGILITY, RENEWABLE_SECOND, PKINIT_SHA1 = 1, 2, 4, 8, 16, 2**29
 
 
 def account_record(account):
@@ -106,12 +107,17 @@ def realm_of(record):
     if len(record) < 17 or record[0] != 1:
         raise Damaged
     skew, lifetime, size, policy = (int.from_bytes(record[at : at + 4], "little") for at in (1, 5, 9, 13))
-    if policy & KEPT or policy // RENEWABLE_SECOND > 31536000 or len(record) < 17 + size or skew > 86400 or not 1 <= lifetime <= 31536000:
+    if policy >= 2 * PKINIT_SHA1 or seconds_of(policy) > 31536000 or len(record) < 17 + size or skew > 86400 or not 1 <= lifetime <= 31536000:
         raise Damaged
     pkinit, name = record[17 : 17 + size], record[17 + size :]
     if not 1 <= len(name) <= 255 or any(octet > 127 for octet in name):
         raise Damaged
     return name, skew, lifetime, pkinit or None, policy
+
+
+def seconds_of(policy):
+    """The greatest renewable life of a policy's number."""
+    return policy % PKINIT_SHA1 // RENEWABLE_SECOND
 
 
 def realm_before(record):
@@ -159,8 +165,9 @@ def realm_words(realm):
 
 def policy_words(policy=0):
     told = [said for bit, said in ((LIMITS_DES3, "limits-des3"), (FORWARDABLE, "forwardable"), (PROXIABLE, "proxiable")) if policy & bit]
-    life = policy // RENEWABLE_SECOND
-    return "".join(f" {said}" for said in (*told, *([f"renewable={life}"] if life else [])))
+    life = seconds_of(policy)
+    behind = [said for bit, said in ((PKINIT_AGILITY, "pkinit-agility"), (PKINIT_SHA1, "pkinit-sha1")) if policy & bit]
+    return "".join(f" {said}" for said in (*told, *([f"renewable={life}"] if life else []), *behind))
 
 
 def realm_got(file):
@@ -281,7 +288,7 @@ def record_damages(file, realm, accounts):
     yield from ((at + 5, number(lifetime)) for lifetime in (0, 1, 31536000, 31536001, 2**32 - 1))
     size = len(realm[3] or b"")
     yield from ((at + 9, number(count)) for count in (0, 1, size - 1, size + 1, size + len(realm[0]), size + len(realm[0]) + 1, 2**32 - 1) if count >= 0)
-    yield from ((at + 13, number(policy)) for policy in (LIMITS_DES3, 2, 4, 7, 8, 15, 16, 256, 16 * 604800 + 7, 16 * 31536000, 16 * 31536001, 2**32 - 1))
+    yield from ((at + 13, number(policy)) for policy in (LIMITS_DES3, 2, 4, 7, 8, 15, 16, 256, 16 * 604800 + 7, 16 * 31536000, 16 * 31536001, 2**32 - 1, 2**29, 2**29 + 8, 2**29 + 16 * 31536000 + 15, 2**29 + 16 * 31536001, 2**30))
     yield from ((at + 17 + size, bytes([octet])) for octet in (0, 127, 128, 255))
     yield from ((at - 5, number(count)) for count in (0, 16, 17, 18, 17 + size, 17 + size + 1, 17 + size + 256, ROOM + 1))
 

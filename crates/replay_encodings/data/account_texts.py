@@ -85,7 +85,7 @@ SECONDS = "realm: expected a skew from 0 to 86400 seconds and a lifetime from 1 
 NAME_OR_SUITE = SUITE
 NO_REALM = "expected the line of the realm before all accounts: realm, name, skew and lifetime"
 PKINIT = "pkinit: expected pairs of hexadecimal digits, as certify writes them"
-WORD = "words: expected some of limits-des3, forwardable, proxiable, renewable=SECONDS and pkinit, in this order, with a comma between each two"
+WORD = "words: expected some of limits-des3, forwardable, proxiable, renewable=SECONDS, pkinit-agility, pkinit-sha1 and pkinit, in this order, with a comma between each two"
 RENEWABLE = "renewable: expected a whole number of seconds from 1 to 31536000"
 NO_PKINIT = "expected - behind words without pkinit"
 ORDER = "name: expected accounts in the order of their names, each name once"
@@ -184,7 +184,7 @@ for further, fault in [
     row("read", fold(HEAD.replace("\n", f"\t{further}\n")), "1: " + fault)
 
 # The words of a policy. What is read of them is judged here word by word.
-WORDS = ["limits-des3", "forwardable", "proxiable", "renewable", "pkinit"]
+WORDS = ["limits-des3", "forwardable", "proxiable", "renewable", "pkinit-agility", "pkinit-sha1", "pkinit"]
 
 def fault_of(words, pkinit):
     last = -1
@@ -204,7 +204,8 @@ def realm(words, pkinit):
     further = [*words, *(["pkinit"] if pkinit else [])]
     return HEAD.replace("\n", f"\t{','.join(further)}\t{pkinit.hex() if pkinit else '-'}\n") if further else HEAD
 
-for chosen in itertools.product([False, True], repeat=4):
+OF_PKINIT = [(False, False), (True, False), (True, True), (False, True)]
+for chosen in [(*front, *behind) for at, front in enumerate(itertools.product([False, True], repeat=4)) for behind in (OF_PKINIT[0], OF_PKINIT[1 + at % 3])]:
     life = random.choice([1, 2, 604800, 31535999, 31536000, random.randrange(1, 31536001)])
     words = [f"{word}={life}" if word == "renewable" else word for word, is_set in zip(WORDS, chosen) if is_set]
     without, certified = realm(words, b""), realm(words, b"\x00\xff")
@@ -214,10 +215,10 @@ for chosen in itertools.product([False, True], repeat=4):
     row("certify", fold(certified + ONE), "-", fold(without + ONE))
     row("disable", fold(without + ONE), "a", fold(without + "#disabled\t" + ONE))
 
-ODD = ["limits-des3", "forwardable", "proxiable", "pkinit", "renewable=604800", "renewable=1", "renewable=31536000", "renewable", "renewable=", "renewable=0",
+ODD = ["limits-des3", "forwardable", "proxiable", "pkinit", "renewable=604800", "pkinit-agility", "pkinit-sha1", "renewable=1", "renewable=31536000", "renewable", "renewable=", "renewable=0",
        "renewable=31536001", "renewable=-1", "renewable=1d", "renewable= 1", "renewable=4294967296", "renewable=99999999999999999999", "renewable==1", "forwardable=",
-       "Forwardable", "proxiable ", " forwardable", "forwardables", "forward", "renewable=1=", "-", ""]
-tried = [*ODD, *(random.choice(ODD) + "," + random.choice(ODD) for _ in range(30)), *(",".join(random.sample(ODD[:5], random.randrange(2, 6))) for _ in range(30))]
+       "Forwardable", "proxiable ", " forwardable", "forwardables", "forward", "renewable=1=", "pkinit-sha256", "pkinit-agility=", "-", ""]
+tried = [*ODD, *(random.choice(ODD) + "," + random.choice(ODD) for _ in range(30)), *(",".join(random.sample(ODD[:7], random.randrange(2, 8))) for _ in range(30))]
 for words in sorted(set(tried)):
     for pkinit in "-", random.choice(["00", "0", "", "--", "0F"]):
         text = HEAD.replace("\n", f"\t{words}\t{pkinit}\n") + ONE

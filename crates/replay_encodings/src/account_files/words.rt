@@ -82,11 +82,21 @@ fn policy_words(alloc: Global, policy: Policy) -> anyhow::Result<String> {
         ""
     };
     let proxiable = if policy.proxiable { " proxiable" } else { "" };
+    let certificates = pkinit_words(policy);
     let life = policy.renewable_life;
     if life == 0 {
-        return Ok(format!(in alloc; "{limits}{forwardable}{proxiable}")?);
+        return Ok(format!(in alloc; "{limits}{forwardable}{proxiable}{certificates}")?);
     }
-    Ok(format!(in alloc; "{limits}{forwardable}{proxiable} renewable={life}")?)
+    Ok(format!(in alloc; "{limits}{forwardable}{proxiable} renewable={life}{certificates}")?)
+}
+
+fn pkinit_words(policy: Policy) -> &'static str {
+    match (policy.pkinit_agility, policy.pkinit_sha1) {
+        (true, true) => " pkinit-agility pkinit-sha1",
+        (true, false) => " pkinit-agility",
+        (false, true) => " pkinit-sha1",
+        (false, false) => "",
+    }
 }
 
 /// Returns the words for the account that a file says.
