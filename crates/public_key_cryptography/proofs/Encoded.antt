@@ -11,6 +11,8 @@ use Rattle.std.proofs.lemmas.List.{length-append, length-replicate, take_all, ta
 use Rattle.std.proofs.lemmas.Nat.{div-mul-add, mod-mul-add}
 use Rattle.modular_arithmetic.specs.Naturals.{i2osp, os2ip}
 use Rattle.modular_arithmetic.proofs.OctetSteps.{number-begins}
+use Rattle.sha1.specs.Sha1.{sha1}
+use Rattle.sha1.specs.Sha1 as S1
 use Rattle.sha2.specs.Sha256.{sha256}
 use Rattle.sha2.specs.Sha256 as S256
 use Rattle.sha2.specs.Sha512.{sha384, sha512}
@@ -19,7 +21,7 @@ use Rattle.sha2.proofs.Facts256.{length-sha256}
 use Rattle.sha2.proofs.Facts512.{length-sha384, length-sha512}
 use Rattle.public_key_cryptography.specs.Pkcs1.{digest_info, digest_of, encoded, padded}
 use Rattle.public_key_cryptography.specs.declared.hash.HashFunction.{HashFunction}
-use Rattle.public_key_cryptography.specs.declared.hash.HashFunction.TheVariants.{Sha256, Sha384, Sha512}
+use Rattle.public_key_cryptography.specs.declared.hash.HashFunction.TheVariants.{Sha1, Sha256, Sha384, Sha512}
 
 -- each element is an octet
 abbrev pub AreOctets : List ℕ → Type 0
@@ -115,27 +117,45 @@ unfolding S512.digest_bytes
 words_512 h zero = tt
 words_512 h (suc n) = octets-append (S512.digest_bytes h n) (to_be_bytes w64 (slice_index h n)) (words_512 h n) (number-octets 8 (slice_index h n))
 
+words_1 : (h : List ℕ) (n : ℕ) → AreOctets (S1.digest_bytes h n)
+unfolding S1.digest_bytes
+words_1 h zero = tt
+words_1 h (suc n) = octets-append (S1.digest_bytes h n) (to_be_bytes w32 (slice_index h n)) (words_1 h n) (number-octets 4 (slice_index h n))
+
+length-digest_1 : (h : List ℕ) (n : ℕ) → length (S1.digest_bytes h n) ≡ 4 * n
+unfolding S1.digest_bytes
+length-digest_1 h zero = refl
+length-digest_1 h (suc n) = omega (arith, length-append (S1.digest_bytes h n) (to_be_bytes w32 (slice_index h n)), length-digest_1 h n)
+
+length-sha1 : (message : List ℕ) → length (sha1 message) ≡ 20
+unfolding sha1
+length-sha1 message = length-digest_1 _ 5
+
 digest-octets : (hash : HashFunction) (message : List ℕ) → AreOctets (digest_of hash message)
-unfolding sha256 sha384 sha512
+unfolding sha1 sha256 sha384 sha512
 digest-octets Sha256 message = words_256 _ 8
 digest-octets Sha384 message = octets-take 48 (S512.digest_bytes _ 8) (words_512 _ 8)
 digest-octets Sha512 message = words_512 _ 8
+digest-octets Sha1 message = words_1 _ 5
 
 digest-short : (hash : HashFunction) (message : List ℕ) → length (digest_of hash message) ≤ 64
 digest-short Sha256 message = omega (arith, length-sha256 message)
 digest-short Sha384 message = omega (arith, length-sha384 message)
 digest-short Sha512 message = omega (arith, length-sha512 message)
+digest-short Sha1 message = omega (arith, length-sha1 message)
 
 ahead-octets : (hash : HashFunction) → AreOctets (0 ∷ digest_info hash)
 unfolding are_octets
 ahead-octets Sha256 = octets-tested (0 ∷ digest_info Sha256) refl
 ahead-octets Sha384 = octets-tested (0 ∷ digest_info Sha384) refl
 ahead-octets Sha512 = octets-tested (0 ∷ digest_info Sha512) refl
+ahead-octets Sha1 = octets-tested (0 ∷ digest_info Sha1) refl
 
-ahead-short : (hash : HashFunction) → length (0 ∷ digest_info hash) ≡ 20
-ahead-short Sha256 = refl
-ahead-short Sha384 = refl
-ahead-short Sha512 = refl
+ahead-short : (hash : HashFunction) → length (0 ∷ digest_info hash) ≤ 20
+ahead-short Sha256 = omega arith
+ahead-short Sha384 = omega arith
+ahead-short Sha512 = omega arith
+ahead-short Sha1 = omega arith
 
 padded-long : (len : ℕ) (ahead digest : List ℕ) → length ahead + length digest + 2 ≤ len → length (padded len ahead digest) ≡ len
 padded-long len ahead digest fits =

@@ -3,12 +3,13 @@ use Rattle.std.specs.Prelude.{◌≡◌, ℕ, ◌+◌, ◌-◌, ◌^◌, ◌%◌
 use Rattle.std.specs.Str.{bytes_eq}
 use Rattle.modular_arithmetic.specs.Moduli.{IsModulusOf}
 use Rattle.modular_arithmetic.specs.Naturals.{i2osp, os2ip}
+use Rattle.sha1.specs.Sha1.{sha1}
 use Rattle.sha2.specs.Sha256.{sha256}
 use Rattle.sha2.specs.Sha512.{sha384, sha512}
 use Rattle.public_key_cryptography.specs.Keys.{refusal_of}
 use Rattle.public_key_cryptography.specs.Primes.{root_of}
 use Rattle.public_key_cryptography.specs.declared.hash.HashFunction.{HashFunction}
-use Rattle.public_key_cryptography.specs.declared.hash.HashFunction.TheVariants.{Sha256, Sha384, Sha512}
+use Rattle.public_key_cryptography.specs.declared.hash.HashFunction.TheVariants.{Sha1, Sha256, Sha384, Sha512}
 use Rattle.public_key_cryptography.specs.declared.public_key.PublicKey.{PublicKey}
 use Rattle.public_key_cryptography.specs.declared.private_key.PrivateKey.{PrivateKey}
 
@@ -17,12 +18,14 @@ abbrev pub digest_of : HashFunction → List ℕ → List ℕ
 digest_of Sha256 message = sha256 message
 digest_of Sha384 message = sha384 message
 digest_of Sha512 message = sha512 message
+digest_of Sha1 message = sha1 message
 
 -- the DER of a DigestInfo, up to the digest (9.2, note 1)
 abbrev pub digest_info : HashFunction → List ℕ
 digest_info Sha256 = 48 ∷ 49 ∷ 48 ∷ 13 ∷ 6 ∷ 9 ∷ 96 ∷ 134 ∷ 72 ∷ 1 ∷ 101 ∷ 3 ∷ 4 ∷ 2 ∷ 1 ∷ 5 ∷ 0 ∷ 4 ∷ 32 ∷ []
 digest_info Sha384 = 48 ∷ 65 ∷ 48 ∷ 13 ∷ 6 ∷ 9 ∷ 96 ∷ 134 ∷ 72 ∷ 1 ∷ 101 ∷ 3 ∷ 4 ∷ 2 ∷ 2 ∷ 5 ∷ 0 ∷ 4 ∷ 48 ∷ []
 digest_info Sha512 = 48 ∷ 81 ∷ 48 ∷ 13 ∷ 6 ∷ 9 ∷ 96 ∷ 134 ∷ 72 ∷ 1 ∷ 101 ∷ 3 ∷ 4 ∷ 2 ∷ 3 ∷ 5 ∷ 0 ∷ 4 ∷ 64 ∷ []
+digest_info Sha1 = 48 ∷ 33 ∷ 48 ∷ 9 ∷ 6 ∷ 5 ∷ 43 ∷ 14 ∷ 3 ∷ 2 ∷ 26 ∷ 5 ∷ 0 ∷ 4 ∷ 20 ∷ []
 
 -- a DigestInfo behind its padding, in len octets; `ahead` is the zero octet and the DER up to the digest
 abbrev pub padded : ℕ → List ℕ → List ℕ → List ℕ

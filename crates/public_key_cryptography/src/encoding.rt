@@ -2,7 +2,7 @@
 ghost use Rattle.std.specs.Prelude.{◌≡◌, ℕ, ◌+◌, ◌<◌, ◌≤◌, length, replicate, slice_index};
 ghost use Rattle.public_key_cryptography.specs.Pkcs1.{encoded, padded};
 
-use crate::hash::{HashFunction, sha256_of, sha384_of, sha512_of};
+use crate::hash::{HashFunction, sha1_of, sha256_of, sha384_of, sha512_of};
 
 // The zero octet, and the DER of a DigestInfo up to the digest (RFC 8017, section 9.2, note 1).
 const AHEAD_SHA256: [u8; 20] = [
@@ -18,6 +18,10 @@ const AHEAD_SHA384: [u8; 20] = [
 const AHEAD_SHA512: [u8; 20] = [
     0, 0x30, 0x51, 0x30, 0x0d, 0x06, 0x09, 0x60, 0x86, 0x48, 0x01, 0x65, 0x03, 0x04, 0x02, 0x03,
     0x05, 0x00, 0x04, 0x40,
+];
+
+const AHEAD_SHA1: [u8; 16] = [
+    0, 0x30, 0x21, 0x30, 0x09, 0x06, 0x05, 0x2b, 0x0e, 0x03, 0x02, 0x1a, 0x05, 0x00, 0x04, 0x14,
 ];
 
 /// Says of octets what their type says. It does nothing.
@@ -56,5 +60,6 @@ pub(crate) fn encode(octets: &mut [u8], hash: HashFunction, message: &[u8])
         HashFunction::Sha256 => pad(octets, &AHEAD_SHA256, &sha256_of(message)),
         HashFunction::Sha384 => pad(octets, &AHEAD_SHA384, &sha384_of(message)),
         HashFunction::Sha512 => pad(octets, &AHEAD_SHA512, &sha512_of(message)),
+        HashFunction::Sha1 => pad(octets, &AHEAD_SHA1, &sha1_of(message)),
     }
 }

@@ -1,5 +1,6 @@
 //! Hash functions (FIPS 180-4).
 ghost use Rattle.std.specs.Prelude.{◌≡◌};
+ghost use Rattle.sha1.specs.Sha1.{sha1};
 ghost use Rattle.sha2.specs.Sha256.{sha256};
 ghost use Rattle.sha2.specs.Sha512.{sha384, sha512};
 
@@ -11,6 +12,13 @@ pub enum HashFunction {
     Sha256,
     Sha384,
     Sha512,
+    Sha1,
+}
+
+pub(crate) fn sha1_of(message: &[u8]) -> [u8; 20]
+    ensures { result ≡ sha1 message.now }
+{
+    sha1::Sha1::digest(message)
 }
 
 pub(crate) fn sha256_of(message: &[u8]) -> [u8; 32]

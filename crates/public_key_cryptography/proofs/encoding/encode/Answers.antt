@@ -1,5 +1,5 @@
 use Rattle.std.proofs.Common.{◌≡◌, sym, ap, ◌∙◌, length, ◌∷◌}
-use Rattle.public_key_cryptography.specs.declared.hash.HashFunction.TheVariants.{Sha256, Sha384, Sha512}
+use Rattle.public_key_cryptography.specs.declared.hash.HashFunction.TheVariants.{Sha1, Sha256, Sha384, Sha512}
 use Rattle.public_key_cryptography.specs.Pkcs1.{digest_info, encoded, padded}
 use Rattle.public_key_cryptography.proofs.encoding.encode.Goals as goal
 
@@ -20,3 +20,9 @@ unfolding encoded
 returns-in-Sha512 c =
     let made : c.pad-in-Sha512.new.octets ≡ encoded (length c.args.octets.now) Sha512 c.args.message.now = c.pad-in-Sha512.ensures ∙ ap (λ d. padded (length c.args.octets.now) (0 ∷ digest_info Sha512) d) c.sha512_of.ensures in
     made ∙ ap (λ h. encoded (length c.args.octets.now) h c.args.message.now) (sym c.in-Sha512.is)
+
+pub returns-in-Sha1 : goal.returns-in-Sha1
+unfolding encoded
+returns-in-Sha1 c =
+    let made : c.pad-in-Sha1.new.octets ≡ encoded (length c.args.octets.now) Sha1 c.args.message.now = c.pad-in-Sha1.ensures ∙ ap (λ d. padded (length c.args.octets.now) (0 ∷ digest_info Sha1) d) c.sha1_of.ensures in
+    made ∙ ap (λ h. encoded (length c.args.octets.now) h c.args.message.now) (sym c.in-Sha1.is)
