@@ -20,10 +20,11 @@ abbrev pub theirs_of : lent.Theirs → TheirValue
 theirs_of (variant.Whole element) = WholeValue element.now
 theirs_of (variant.Bits bits) = ValueBits bits.now
 
--- whether a signature verifies; the signature of some bytes; the public value, and the shared secret, that random bytes give; and that
+-- whether a signature verifies, and whether one by RSA with SHA-1 does; the signature of some bytes; the public value, and the shared secret, that random bytes give; and that
 -- each signature names an algorithm that has an encoding
 pub record KeysRecord : Type 0 where
   pub verifies : SubjectPublicKeyInfo → AlgorithmIdentifier → Bytes → Bytes → Bool
+  pub verifies_sha1 : SubjectPublicKeyInfo → Bytes → Bytes → Bool
   pub sign : Bytes → Option Signed
   pub public_value : Bytes → Option Raw
   pub agree : TheirValue → Bytes → Option Bytes
@@ -37,6 +38,7 @@ encodes_none signed made e = absurd (cc (e))
 abbrev pub no_functions : KeysRecord
 no_functions = record {
   verifies = λ key algorithm signed signature. false;
+  verifies_sha1 = λ key signed signature. false;
   sign = λ signed. None;
   public_value = λ words. None;
   agree = λ theirs words. None;

@@ -27,7 +27,7 @@ pub enum Theirs<'a> {
 }
 
 /// What a party does with its private key and with the keys of others. Each is a function of its arguments: the same
-/// arguments have the same answer, unless memory runs out. Contracts see the four functions, and that what is signed names an
+/// arguments have the same answer, unless memory runs out. Contracts see the five functions, and that what is signed names an
 /// algorithm that has an encoding, as [`SignatureAlgorithm`](crate::SignatureAlgorithm) has.
 pub trait KeyFunctions {
     ghost use Rattle.x509_keys.specs.KeyFunctions.{KeysRecord, theirs_of};
@@ -46,6 +46,11 @@ pub trait KeyFunctions {
         signature: &[u8],
     ) -> bool
         ensures { result ≡ (functions self.now).verifies key.now algorithm.now signed.now signature.now };
+
+    /// Whether the signature is valid for these bytes under the key, by RSA with SHA-1 (RFC 8017, section 8.2). Signed data alone is judged
+    /// so, and only where a realm's policy takes SHA-1: never a certificate.
+    fn verifies_sha1(&self, key: &SubjectPublicKeyInfo, signed: &[u8], signature: &[u8]) -> bool
+        ensures { result ≡ (functions self.now).verifies_sha1 key.now signed.now signature.now };
 
     /// The party's signature of these bytes. `None` if the party does not sign.
     fn sign(&self, alloc: Global, signed: &[u8]) -> Result<Option<Signed>, AllocError>

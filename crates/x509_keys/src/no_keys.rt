@@ -24,6 +24,15 @@ impl KeyFunctions for NoKeys {
         false
     }
 
+    fn verifies_sha1(
+        &self,
+        _key: &SubjectPublicKeyInfo,
+        _signed: &[u8],
+        _signature: &[u8],
+    ) -> bool {
+        false
+    }
+
     fn sign(&self, _alloc: Global, _signed: &[u8]) -> Result<Option<Signed>, AllocError> {
         Ok(None)
     }
