@@ -13,7 +13,7 @@ use Rattle.x509_keys.specs.SignedBy.{encodes_by, signed_by}
 use Rattle.x509_keys.specs.declared.functions.Signed.{Signed}
 use Rattle.x509_keys.specs.declared.signature_algorithm.SignatureAlgorithm.{SignatureAlgorithm}
 use Rattle.rsa_keys.specs.Agreements.{agreed, own_value}
-use Rattle.rsa_keys.specs.Signatures.{checked}
+use Rattle.rsa_keys.specs.Signatures.{checked, sha1_checked}
 use Rattle.rsa_keys.specs.declared.own_key.OwnKey.{OwnKey}
 
 -- the certificate's key is the public part of the own one
@@ -41,6 +41,7 @@ encodes None text made e = encodes_none text made e
 abbrev pub rsa_functions : Group → Option OwnKey → KeysRecord
 rsa_functions group own = record {
   verifies = λ key algorithm text signature. is_ok (checked key algorithm text signature);
+  verifies_sha1 = λ key text signature. is_ok (sha1_checked key text signature);
   sign = λ text. signed_by_any own text;
   public_value = λ words. own_value group words;
   agree = λ theirs words. agreed group theirs words;

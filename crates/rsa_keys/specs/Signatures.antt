@@ -18,7 +18,7 @@ use Rattle.modular_arithmetic.specs.declared.modulus.ModulusRefusal.TheVariants 
 use Rattle.public_key_cryptography.specs.Keys.{refusal_of}
 use Rattle.public_key_cryptography.specs.Pkcs1.{encoded}
 use Rattle.public_key_cryptography.specs.declared.hash.HashFunction.{HashFunction}
-use Rattle.public_key_cryptography.specs.declared.hash.HashFunction.TheVariants.{Sha256, Sha384, Sha512}
+use Rattle.public_key_cryptography.specs.declared.hash.HashFunction.TheVariants.{Sha1 as HashSha1, Sha256, Sha384, Sha512}
 use Rattle.public_key_cryptography.specs.declared.public_key.KeyRefusal.{KeyRefusal}
 use Rattle.public_key_cryptography.specs.declared.public_key.KeyRefusal.TheVariants as by
 use Rattle.rsa_keys.specs.Values.{is_natural}
@@ -124,6 +124,10 @@ by_hash (Err refusal) key message signature = Err refusal
 -- a signature is valid, or why it isn't: the algorithm is judged first, then the key, then the signature
 unfoldable pub checked : SubjectPublicKeyInfo → AlgorithmIdentifier → Bytes → Bytes → Result (Unit {0}) SignatureRefusal
 checked key algorithm message signature = by_hash (hash_of algorithm) key.subject_public_key message signature
+
+-- the same for a signature with SHA-1
+unfoldable pub sha1_checked : SubjectPublicKeyInfo → Bytes → Bytes → Result (Unit {0}) SignatureRefusal
+sha1_checked key message signature = by_hash (Ok HashSha1) key.subject_public_key message signature
 
 -- the algorithms by their names
 

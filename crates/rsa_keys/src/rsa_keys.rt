@@ -5,7 +5,7 @@ ghost use Rattle.rsa_keys.specs.Functions.{signed_by_own};
 
 use crate::agreement::{agreed, own_value};
 use crate::own_key::OwnKey;
-use crate::signature::check_signature;
+use crate::signature::{check_sha1_signature, check_signature};
 use picky_asn1::wrapper::OctetStringAsn1;
 use picky_asn1_der::Asn1RawDer;
 use public_key_cryptography::{Group, HashFunction};
@@ -43,6 +43,10 @@ impl KeyFunctions for RsaKeys {
         signature: &[u8],
     ) -> bool {
         check_signature(key, algorithm, signed, signature).is_ok()
+    }
+
+    fn verifies_sha1(&self, key: &SubjectPublicKeyInfo, signed: &[u8], signature: &[u8]) -> bool {
+        check_sha1_signature(key, signed, signature).is_ok()
     }
 
     fn sign(&self, alloc: Global, signed: &[u8]) -> Result<Option<Signed>, AllocError> {

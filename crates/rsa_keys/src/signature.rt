@@ -1,6 +1,6 @@
 //! Signatures that are verified.
 ghost use Rattle.std.specs.Prelude.{◌≡◌, Ok, Err, MatchResult};
-ghost use Rattle.rsa_keys.specs.Signatures.{by_hash, by_numbers, checked, hash_named, hash_of, modulus_named, numbers_in, numbers_of, refusal_named, verdict};
+ghost use Rattle.rsa_keys.specs.Signatures.{by_hash, by_numbers, checked, hash_named, hash_of, modulus_named, numbers_in, numbers_of, refusal_named, sha1_checked, verdict};
 
 use crate::is_natural;
 use crate::refusal::{RsaKeyRefusal, SignatureRefusal};
@@ -26,6 +26,23 @@ pub fn check_signature(
         Ok(hash) => check_by_hash(hash, key.subject_public_key(), signed, signature),
         Err(refusal) => Err(refusal),
     }
+}
+
+/// The same for a signature with SHA-1, which no algorithm of [`check_signature`] names.
+#[tactic(auto, unfolding(crate::specs::Signatures::sha1_checked))]
+pub fn check_sha1_signature(
+    key: &SubjectPublicKeyInfo,
+    signed: &[u8],
+    signature: &[u8],
+) -> Result<(), SignatureRefusal>
+    ensures { result ≡ sha1_checked key.now signed.now signature.now }
+{
+    check_by_hash(
+        HashFunction::Sha1,
+        key.subject_public_key(),
+        signed,
+        signature,
+    )
 }
 
 fn check_by_hash(
