@@ -52,6 +52,10 @@ impl<'a> KeyFunctions for ShortKeys<'a> {
         self.keys.verifies(key, algorithm, signed, signature)
     }
 
+    fn verifies_sha1(&self, key: &SubjectPublicKeyInfo, signed: &[u8], signature: &[u8]) -> bool {
+        self.keys.verifies_sha1(key, signed, signature)
+    }
+
     fn sign(&self, alloc: Global, signed: &[u8]) -> Result<Option<Signed>, AllocError> {
         match self.short {
             Some(Taker::Sign) => Err(AllocError),

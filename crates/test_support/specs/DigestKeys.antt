@@ -1,5 +1,5 @@
 -- Key functions that sign by digests.
-use Rattle.std.specs.Prelude.{◌≡◌, Bool, true, ◌&&◌, ◌++◌, List, Option, None, Some}
+use Rattle.std.specs.Prelude.{◌≡◌, Bool, true, false, ◌&&◌, ◌++◌, List, Option, None, Some}
 use Rattle.std.specs.Bool.{nat_eq}
 use Rattle.std.specs.Cmp.Lexicographic.{pointwise}
 use Rattle.std.specs.List.{list_any}
@@ -38,6 +38,7 @@ encodes (Some named) signature made e = encodes_by named signature made e
 abbrev pub digest_functions : Bytes → Option SignatureAlgorithm → List KnownKey → Option Raw → Option Bytes → KeysRecord
 digest_functions own algorithm known public_value secret = record {
   verifies = λ key used signed signature. list_any (is_by key signed signature) known;
+  verifies_sha1 = λ key signed signature. false;
   sign = λ signed. named_by algorithm (digest_of own signed);
   public_value = λ words. public_value;
   agree = λ theirs words. secret;
@@ -53,6 +54,7 @@ functions_of keys =
 abbrev pub given_functions : Option SignatureAlgorithm → Bytes → KeysRecord
 given_functions algorithm given = record {
   verifies = λ key used signed signature. true;
+  verifies_sha1 = λ key signed signature. true;
   sign = λ signed. named_by algorithm given;
   public_value = λ words. None;
   agree = λ theirs words. None;

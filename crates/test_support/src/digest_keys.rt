@@ -93,6 +93,15 @@ impl<'a> KeyFunctions for DigestKeys<'a> {
             .any(|known| is_by(key, signed, signature, known))
     }
 
+    fn verifies_sha1(
+        &self,
+        _key: &SubjectPublicKeyInfo,
+        _signed: &[u8],
+        _signature: &[u8],
+    ) -> bool {
+        false
+    }
+
     fn sign(&self, alloc: Global, signed: &[u8]) -> Result<Option<Signed>, AllocError> {
         let Some(algorithm) = self.algorithm else {
             return Ok(None);
@@ -150,6 +159,15 @@ impl<'a> KeyFunctions for GivenSignature<'a> {
         &self,
         _key: &SubjectPublicKeyInfo,
         _algorithm: &AlgorithmIdentifier,
+        _signed: &[u8],
+        _signature: &[u8],
+    ) -> bool {
+        true
+    }
+
+    fn verifies_sha1(
+        &self,
+        _key: &SubjectPublicKeyInfo,
         _signed: &[u8],
         _signature: &[u8],
     ) -> bool {
