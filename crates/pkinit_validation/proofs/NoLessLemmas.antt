@@ -30,7 +30,7 @@ use Rattle.cms_signed_data.specs.SignedParts as one
 use Rattle.cms_signed_data.specs.SignedParts.{SignedParts}
 use Rattle.cms_signed_data.specs.Written.{id_of, id_tree}
 use Rattle.cms_signed_data.specs.declared.signer_info.IssuerAndSerialNumber.{IssuerAndSerialNumber}
-use Rattle.cms_signed_data.specs.GeneralContents.{GeneralParts, content_of}
+use Rattle.cms_signed_data.specs.GeneralContents.{GeneralParts, attributes_bytes, content_of, signature_of}
 use Rattle.cms_signed_data.specs.Identifiers.{id_content, key_id_of, names, names_by_key, names_by_serial}
 use Rattle.cms_signed_data.specs.OneForm.{IsSameData}
 use Rattle.pkinit_messages.specs.declared.auth_pack.AuthPack.{AuthPack}
@@ -51,10 +51,10 @@ use Rattle.pkinit_validation.specs.Trusted.{trusted, trusted_by}
 use Rattle.pkinit_validation.specs.declared.refusal.TrustRefusal.{TrustRefusal}
 use Rattle.pkinit_validation.specs.declared.refusal.TrustRefusal.TheVariants.{CantVerifyCertificate, InvalidSignature}
 use Rattle.pkinit_validation.specs.GeneralTable.{general_table, is_general_auth_data, of_general_content, of_general_pack, of_general_request}
-use Rattle.pkinit_validation.specs.GeneralTrust.{certificates_of, general_signed_by, general_signer, sid_of, signature_under, takes_digest, trusted_among, verifies_under}
+use Rattle.pkinit_validation.specs.GeneralTrust.{certificates_of, general_signed_by, general_signer, is_sha1, sid_of, signature_under, takes_digest, trusted_among, verifies_under}
 use Rattle.pkinit_validation.specs.Widened.{fields_widened, pack_widened}
 use Rattle.pkinit_validation.specs.declared.policies.policy.GeneralPolicy.{GeneralPolicy}
-use Rattle.pkinit_validation.specs.declared.policies.signer.TheConstants.{RSA_ENCRYPTION}
+use Rattle.pkinit_validation.specs.declared.policies.signer.TheConstants.{RSA_ENCRYPTION, SHA1_WITH_RSA}
 use Rattle.pkinit_validation.specs.declared.table.TheConstants.{AUTH_DATA}
 use Rattle.pkinit_validation.proofs.WidenedLemmas.{are_judged_alike, by_need, by_refuse, is_widened, past_need, past_refuse}
 use Rattle.cms_signed_data.proofs.OneFormLemmas.{is_general, same_itself, same_list}
@@ -113,11 +113,20 @@ module _ (keys : KeysRecord) (expected : ExpectedRecord) (content : SignedParts)
   same_digest : pointwise nat_eq (digest_by general.algorithm (content_of general.info)) general.digest ≡ pointwise nat_eq (sha256 judged.content) judged.digest
   same_digest = λ i. pointwise nat_eq (digest_by (same.algorithm i) (same.encapsulated i).content.0) (same.digest i)
 
+  -- what the digest algorithm decides
+  abbrev by_digest : Certificate → DigestAlgorithm → Bool
+  by_digest certificate digest =
+      if is_sha1 digest && pointwise nat_eq (oid_content (signature_under general.algorithm judged.algorithm).algorithm.0) SHA1_WITH_RSA
+      then keys.verifies_sha1 certificate.tbs_certificate.subject_public_key_info (as_set (attributes_bytes general.info)) (signature_of general.info)
+      else keys.verifies certificate.tbs_certificate.subject_public_key_info (signature_under general.algorithm judged.algorithm) (as_set (attributes_bytes general.info))
+      (signature_of general.info)
+
   same_verified : (certificate : Certificate)
       → verifies_under keys certificate general judged.algorithm
       ≡ keys.verifies certificate.tbs_certificate.subject_public_key_info judged.algorithm judged.covered judged.signature
   same_verified certificate =
-      λ i. keys.verifies certificate.tbs_certificate.subject_public_key_info (same_algorithm judged.algorithm i) (as_set (same.attributes i)) (same.signature i)
+      ap (by_digest certificate) same.algorithm
+      ∙ (λ i. keys.verifies certificate.tbs_certificate.subject_public_key_info (same_algorithm judged.algorithm i) (as_set (same.attributes i)) (same.signature i))
 
   -- the rows behind the issuer, the serial number and the digest
   abbrev by_signature : Certificate → Table (Result (Unit {0}) TrustRefusal)

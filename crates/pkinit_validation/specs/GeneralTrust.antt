@@ -1,6 +1,6 @@
 -- Who signed signed data of the general form, in parts of one table: the first case that holds counts (RFC 5652, sections 5.4 and 5.6; RFC
 -- 4556, section 3.2.2).
-use Rattle.std.specs.Prelude.{◌≡◌, ℕ, Bool, true, not, List, [], ◌∷◌, Option, None, Some, Result, Ok, Err, IsTrue, unwrap_or, refl, if◌then◌else◌}
+use Rattle.std.specs.Prelude.{◌≡◌, ℕ, Bool, true, false, ◌&&◌, not, List, [], ◌∷◌, Option, None, Some, Result, Ok, Err, IsTrue, unwrap_or, refl, if◌then◌else◌}
 use Rattle.std.specs.Bool.{nat_eq}
 use Rattle.std.specs.Cmp.Lexicographic.{pointwise}
 use Rattle.picky_asn1.specs.Bytes.{Bytes}
@@ -31,7 +31,7 @@ use Rattle.pkinit_validation.specs.Refusals.{code_of}
 use Rattle.pkinit_validation.specs.declared.refusal.TrustRefusal.{TrustRefusal}
 use Rattle.pkinit_validation.specs.declared.refusal.TrustRefusal.TheVariants.{InvalidSignature}
 use Rattle.pkinit_validation.specs.declared.policies.policy.GeneralPolicy.{GeneralPolicy}
-use Rattle.pkinit_validation.specs.declared.policies.signer.TheConstants.{RSA_ENCRYPTION}
+use Rattle.pkinit_validation.specs.declared.policies.signer.TheConstants.{RSA_ENCRYPTION, SHA1_WITH_RSA}
 
 -- the signer's identifier, and the certificates
 abbrev pub sid_of : GeneralParts → Raw
@@ -85,10 +85,20 @@ rsa_beside Sha512 = Some (rsa_named oids.sha512_with_rsa_encryption has_null_sha
 abbrev pub signature_under : DigestAlgorithm → AlgorithmIdentifier → AlgorithmIdentifier
 signature_under digest algorithm = if pointwise nat_eq (oid_content algorithm.algorithm.0) RSA_ENCRYPTION then unwrap_or (rsa_beside digest) algorithm else algorithm
 
--- the signature verifies by this algorithm under the certificate's key, over the signed attributes with the tag of a SET OF
+-- the digest algorithm is SHA-1
+abbrev pub is_sha1 : DigestAlgorithm → Bool
+is_sha1 Sha1 = true
+is_sha1 Sha256 = false
+is_sha1 Sha384 = false
+is_sha1 Sha512 = false
+
+-- The signature verifies by this algorithm under the certificate's key, over the signed attributes with the tag of a SET OF. RSA with SHA-1
+-- is judged beside the digest algorithm SHA-1 alone.
 abbrev pub verifies_by : KeysRecord → Certificate → GeneralParts → AlgorithmIdentifier → Bool
 verifies_by keys certificate parts algorithm =
-    keys.verifies certificate.tbs_certificate.subject_public_key_info algorithm (as_set (attributes_bytes parts.info)) (signature_of parts.info)
+    if is_sha1 parts.algorithm && pointwise nat_eq (oid_content algorithm.algorithm.0) SHA1_WITH_RSA
+    then keys.verifies_sha1 certificate.tbs_certificate.subject_public_key_info (as_set (attributes_bytes parts.info)) (signature_of parts.info)
+    else keys.verifies certificate.tbs_certificate.subject_public_key_info algorithm (as_set (attributes_bytes parts.info)) (signature_of parts.info)
 
 abbrev pub verifies_under : KeysRecord → Certificate → GeneralParts → AlgorithmIdentifier → Bool
 verifies_under keys certificate parts algorithm = verifies_by keys certificate parts (signature_under parts.algorithm algorithm)
@@ -131,7 +141,8 @@ takes_digest policy Sha512 = true
 -- Judges the signature of signedAuthPack.
 abbrev pub general_signer : KeysRecord → GeneralPolicy → ExpectedRecord → GeneralParts → Table (Result (Unit {0}) Code)
 general_signer keys policy expected parts =
-    -- The policy takes the digestAlgorithm: SHA-1 by its own word alone (RFC 4556, section 3.2.2; RFC 6194). Test: `SHA-1 unasked`.
+    -- The policy takes the digestAlgorithm: SHA-1 by its own word alone (RFC 4556, section 3.2.2; RFC 6194). Test: `SHA-1 unasked`,
+    -- `granted, SHA-1 asked for`.
     refuse (not (takes_digest policy parts.algorithm)) KDC_ERR_DIGEST_IN_SIGNED_DATA_NOT_ACCEPTED
     -- The client signed the content, by a certificate that is accepted under the realm's anchor and names the client (RFC 4556, section
     -- 3.2.2). Test: `certificate of bob`, `certificate of another authority`.

@@ -7,7 +7,7 @@ ghost use Rattle.picky_asn1_der.specs.Found.{IsFound};
 ghost use Rattle.krb_messages.specs.Refusals.{IsJudged};
 ghost use Rattle.pkinit_validation.specs.Expected.{expected_of};
 ghost use Rattle.pkinit_validation.specs.Refusals.{IsOutcome};
-ghost use Rattle.pkinit_validation.specs.GeneralTrust.{IsAlgorithm, IsJudgedAs, IsJudgedBy, by_certificate, general_signed_by, general_signer, rsa_beside, takes_digest, trusted_among, verifies_by, verifies_under};
+ghost use Rattle.pkinit_validation.specs.GeneralTrust.{IsAlgorithm, IsJudgedAs, IsJudgedBy, by_certificate, general_signed_by, general_signer, is_sha1, rsa_beside, takes_digest, trusted_among, verifies_by, verifies_under};
 
 use crate::certificates::read_signed;
 use crate::policies::policy::GeneralPolicy;
@@ -26,6 +26,9 @@ use x509_spelling::X509Fault;
 
 /// The content octets of rsaEncryption, 1.2.840.113549.1.1.1.
 pub(crate) const RSA_ENCRYPTION: [u8; 9] = [0x2A, 0x86, 0x48, 0x86, 0xF7, 0x0D, 0x01, 0x01, 0x01];
+
+/// The content octets of sha1WithRSAEncryption, 1.2.840.113549.1.1.5.
+pub(crate) const SHA1_WITH_RSA: [u8; 9] = [0x2A, 0x86, 0x48, 0x86, 0xF7, 0x0D, 0x01, 0x01, 0x05];
 
 /// Judges whether the client signed the content, by a digest that the policy takes.
 pub(crate) fn check_general_signer<K: KeyFunctions>(
@@ -233,7 +236,27 @@ fn verifies<K: KeyFunctions>(
     ensures { result ≡ verifies_by (K.functions keys.now) certificate.now content.now algorithm.now }
 {
     let key = &certificate.tbs_certificate.subject_public_key_info;
+    if is_sha1(content.digest_algorithm()) && is_sha1_with_rsa(algorithm) {
+        return keys.verifies_sha1(key, content.covered(), content.signature());
+    }
     keys.verifies(key, algorithm, content.covered(), content.signature())
+}
+
+fn is_sha1(digest: DigestAlgorithm) -> bool
+    ensures { result ≡ is_sha1 digest }
+{
+    match digest {
+        DigestAlgorithm::Sha1 => true,
+        DigestAlgorithm::Sha256 => false,
+        DigestAlgorithm::Sha384 => false,
+        DigestAlgorithm::Sha512 => false,
+    }
+}
+
+fn is_sha1_with_rsa(algorithm: &AlgorithmIdentifier) -> bool
+    ensures { result ≡ pointwise nat_eq (oid_content algorithm.now.algorithm.0) SHA1_WITH_RSA }
+{
+    algorithm.oid().as_bytes() == SHA1_WITH_RSA.as_slice()
 }
 
 fn is_rsa_encryption(algorithm: &AlgorithmIdentifier) -> bool
