@@ -340,7 +340,7 @@ def judge(policy, anchor, own, key, now, realm, client, body, padata):
     hashing = signing_hash(signed["signing"], signed["named"])
     if not names(signed["sid"], found) or hashlib.new(signed["named"], signed["content"]).digest() != signed["digest"]:
         return BAD_SIGNATURE
-    if hashing is None or hashing == "sha1" and policy != "sha1":
+    if hashing is None or hashing == "sha1" and signed["named"] != "sha1":
         return BAD_SIGNATURE
     if not verifies(found.public_key(), hashing, signed["covered"], signed["signature"]):
         return BAD_SIGNATURE
@@ -586,6 +586,11 @@ def digests():
     row("SHA-1 asked for, certificate of bob", "sha1", padata(name="sha1", certificates=[BOB], sid=by_serial(BOB), key=OTHER_KEY))
     row("SHA-1 asked for, digest of other content", "sha1", padata(name="sha1", digest=bytes(20)))
     row("granted, SHA-256 where SHA-1 is taken", "sha1", padata())
+    row("granted, SHA-1 asked for", "sha1", padata(name="sha1"))
+    row("granted, rsaEncryption with SHA-1", "sha1", padata(name="sha1", named=RSA_ALONE))
+    row("granted, digest SHA-1 under a signature with SHA-256", "sha1", padata(name="sha1", signing="sha256"))
+    row("SHA-1 asked for, signature with SHA-1 under SHA-256", "sha1", padata(signing="sha1"))
+    row("SHA-1 asked for, signature by another key", "sha1", padata(name="sha1", key=OTHER_KEY))
     rows("digest SHA-224", padata(name="sha224"))
     rows("digest parameters octets", padata(algorithm=tlv(0x30, oid(DIGEST_OF["sha256"]), tlv(4))))
     rows("digest of other content", padata(digest=hashlib.sha256(b"other").digest()))
