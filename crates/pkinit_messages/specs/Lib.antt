@@ -1,6 +1,7 @@
 pub mod Replies
 pub mod Sizes
 pub mod AuthPacks
+pub mod AskedPacks
 pub mod ChosenKdfs
 pub mod Contexts
 pub mod DerivedKeys

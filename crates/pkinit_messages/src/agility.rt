@@ -1,6 +1,7 @@
 //! Algorithm agility of PKINIT (RFC 8636): an AuthPack with fields that later documents add, the key derivation function that a KDC
 //! chooses, its name in the reply, and the reply key that it gives.
 
+mod asked_pack;
 mod auth_pack;
 mod authenticator;
 mod chosen_kdf;
@@ -19,6 +20,7 @@ mod party_name;
 mod reading;
 mod reply;
 
+pub use asked_pack::AgileAuthPack;
 pub use auth_pack::ExtensibleAuthPack;
 pub use authenticator::ExtensiblePkAuthenticator;
 pub use chosen_kdf::first_known;
