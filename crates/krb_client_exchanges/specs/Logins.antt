@@ -18,7 +18,7 @@ use Rattle.krb_client_exchanges.specs.declared.hint.KeyHint.{KeyHint}
 use Rattle.krb_client_exchanges.specs.declared.wanted.Wanted.{Wanted}
 use Rattle.krb_client_exchanges.specs.AnswerHints.{hint_in_answer, suite_for}
 use Rattle.krb_client_exchanges.specs.Courses.{Course, ◌>>=◌, judged}
-use Rattle.krb_client_exchanges.specs.RequestKinds.{as_request_by, exchange, first_as_request, renewal_request_by, tgs_request_by}
+use Rattle.krb_client_exchanges.specs.RequestKinds.{as_request_by, exchange, first_as_request, kept_exchange, renewal_request_by, tgs_request_by}
 use Rattle.krb_client_exchanges.specs.SharedKeys.{Keyed, keyed_by_keytab, keyed_by_password, some_suites, keytab_suites}
 use Rattle.krb_client_exchanges.specs.declared.fault.LoginRefusal.TheVariants.{NotHinted, NotTaken}
 
@@ -75,6 +75,13 @@ login_by_means client suites means = do
   first ← exchange (as_request_by client suites means)
   suite ← judged NotHinted (suite_for client.suite suites first.1)
   granted_first suites (record client { suite = suite }) means first
+
+-- The same, where the reply is taken by means that know the octets of the request (RFC 8636, section 6).
+abbrev pub login_by_kept_means : {F : Type 0} → ClientRecord → List CipherSuite → (Bytes → MeansRecord) → Course F CredentialRecord
+login_by_kept_means client suites means = do
+  first ← kept_exchange (as_request_by client suites (means []))
+  suite ← judged NotHinted (suite_for client.suite suites first.1.1)
+  granted_first suites (record client { suite = suite }) (means first.0) first.1
 
 -- A ticket for a service of the realm, by a credential (RFC 4120, section 3.3).
 abbrev pub ticket_for : {F : Type 0} → ClientRecord → List CipherSuite → CredentialRecord → List Bytes → Course F CredentialRecord

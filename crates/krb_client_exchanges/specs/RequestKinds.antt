@@ -30,6 +30,14 @@ exchange request = do
   reply ← sent octets
   ended (request.remembers occasion, reply)
 
+-- The same, with the octets of the request, by which its reply is taken.
+abbrev pub kept_exchange : {F A : Type 0} → RequestRecord A → Course F (Bytes × (A × Bytes))
+kept_exchange request = do
+  occasion ← began
+  octets ← made (request.asks occasion) (request.refuses occasion)
+  reply ← sent octets
+  ended (octets, (request.remembers occasion, reply))
+
 -- What a client remembers of a request for a ticket-granting ticket of its realm.
 abbrev pub granting_asked : ClientRecord → Occasion → AsAskedRecord
 granting_asked client occasion = as_asked (krbtgt_of client.realm) occasion.moment occasion.words

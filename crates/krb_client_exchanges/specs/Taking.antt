@@ -57,6 +57,13 @@ posted (Ok whole) = do
   ended (whole.1, reply)
 posted (Err refusal) = λ events outcome. (events ≡ []) × (outcome ≡ Err (not_asked refusal))
 
+-- The same, with the octets that were sent.
+abbrev pub posted_kept : {F A : Type 0} → Result (Bytes × A) AskRefusal → Course F (Bytes × (A × Bytes))
+posted_kept (Ok whole) = do
+  reply ← sent whole.0
+  ended (whole.0, (whole.1, reply))
+posted_kept (Err refusal) = λ events outcome. (events ≡ []) × (outcome ≡ Err (not_asked refusal))
+
 -- What was made, as its octets.
 abbrev pub octets_first : {A E : Type 0} → Result (Vec ℕ Global × A) E → Result (Bytes × A) E
 octets_first (Ok whole) = Ok (whole.0.items, whole.1)
@@ -65,3 +72,7 @@ octets_first (Err error) = Err error
 abbrev pub octets_last : {A E : Type 0} → Result (A × Vec ℕ Global) E → Result (A × Bytes) E
 octets_last (Ok whole) = Ok (whole.0, whole.1.items)
 octets_last (Err error) = Err error
+
+abbrev pub octets_both : {A E : Type 0} → Result (Vec ℕ Global × (A × Vec ℕ Global)) E → Result (Bytes × (A × Bytes)) E
+octets_both (Ok whole) = Ok (whole.0.items, (whole.1.0, whole.1.1.items))
+octets_both (Err error) = Err error

@@ -22,6 +22,7 @@
 //! the client, and whose credentials are exactly those that are given, in their order (`login_cache`).
 #![tactic(auto)]
 
+mod agile;
 mod answer;
 mod asking;
 mod by_hint;
@@ -47,6 +48,7 @@ mod service_ticket;
 mod taking;
 mod wanted;
 
+pub use agile::log_in_by_agile_certificate;
 pub use answer::{AnswerHint, hint_in_answer};
 pub use asking::{first_request, first_request_with};
 pub use by_hint::client_by_hint;

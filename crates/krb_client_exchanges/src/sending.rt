@@ -3,8 +3,8 @@ ghost use Rattle.std.specs.Prelude.{◌≡◌, IfOk};
 ghost use Rattle.krb_realm_accounts.specs.Names.{parts};
 ghost use Rattle.krb_messages.specs.RandomBytes.{AreEnoughForRequest};
 ghost use Rattle.krb_client_exchanges.specs.Courses.{Runs, began};
-ghost use Rattle.krb_client_exchanges.specs.RequestKinds.{IsMadeAt, as_request_by, exchange, first_as_request, renewal_request_by, tgs_request_by};
-ghost use Rattle.krb_client_exchanges.specs.Taking.{not_asked, octets_first, octets_last, posted};
+ghost use Rattle.krb_client_exchanges.specs.RequestKinds.{IsMadeAt, as_request_by, exchange, first_as_request, kept_exchange, renewal_request_by, tgs_request_by};
+ghost use Rattle.krb_client_exchanges.specs.Taking.{not_asked, octets_both, octets_first, octets_last, posted, posted_kept};
 
 use crate::asking::first_request_with;
 use crate::fault::{ExchangeFault, LoginRefusal};
@@ -42,6 +42,24 @@ pub(crate) fn ask_by_means<K: Kdc, M: Means>(
 {
     let occasion = begin(alloc, kdc)?;
     send(
+        alloc,
+        kdc,
+        by_means_at(alloc, client, suites, means, &occasion),
+    )
+}
+
+/// The same, with the octets of the request.
+pub(crate) fn ask_kept<K: Kdc, M: Means>(
+    alloc: Global,
+    kdc: &mut K,
+    client: &Client,
+    suites: &[CipherSuite],
+    means: &M,
+) -> Result<(Vec<u8>, (AsAsked, Vec<u8>)), ExchangeFault<K::Fault>>
+    ensures { Runs (K.events kdc.old) (K.events kdc.new) (kept_exchange (as_request_by client.now suites.now (M.means means.now))) (octets_both result) }
+{
+    let occasion = begin(alloc, kdc)?;
+    send_kept(
         alloc,
         kdc,
         by_means_at(alloc, client, suites, means, &occasion),
@@ -107,6 +125,23 @@ fn send<K: Kdc, A: Drop>(
     match made {
         Ok((octets, asked)) => match kdc.ask(alloc, &octets) {
             Ok(reply) => Ok((asked, reply)),
+            Err(fault) => Err(ExchangeFault::Kdc(fault)),
+        },
+        Err(refusal) => Err(not_asked(refusal)),
+    }
+}
+
+// The same, with the octets that were sent.
+fn send_kept<K: Kdc, A: Drop>(
+    alloc: Global,
+    kdc: &mut K,
+    made: Result<(Vec<u8>, A), AskRefusal>,
+) -> Result<(Vec<u8>, (A, Vec<u8>)), ExchangeFault<K::Fault>>
+    ensures { Runs (K.events kdc.old) (K.events kdc.new) (posted_kept (octets_first made)) (octets_both result) }
+{
+    match made {
+        Ok((octets, asked)) => match kdc.ask(alloc, &octets) {
+            Ok(reply) => Ok((octets, (asked, reply))),
             Err(fault) => Err(ExchangeFault::Kdc(fault)),
         },
         Err(refusal) => Err(not_asked(refusal)),

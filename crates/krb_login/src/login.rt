@@ -6,12 +6,13 @@ use crate::kdc::KdcPipe;
 use crate::refusals::stop_of;
 use crate::reports::Expected;
 use crate::secret::{Secret, secret_of};
-use krb_client::Credential;
+use krb_client::{Credential, TakeRefusal};
 use krb_client_exchanges::{
-    ExchangeFault, cache_of, log_in_by_certificate, log_in_by_keytab, log_in_by_password,
-    renewed_ticket, ticket_for,
+    ExchangeFault, LoginRefusal, cache_of, log_in_by_agile_certificate, log_in_by_certificate,
+    log_in_by_keytab, log_in_by_password, renewed_ticket, ticket_for,
 };
 use krb_commands::{FileKind, Stop, begin, refused, write_file};
+use krb_constants::error_codes::KDC_ERR_PREAUTH_FAILED;
 use krb_file_formats::CacheWriteFault;
 use std::alloc::Global;
 
@@ -97,10 +98,36 @@ fn log_in_certified<'a>(
     let suites = login.wanted().suites();
     let user = login.user.argument;
     let mut kdc = KdcPipe::open(rt, &login.settings, user, Expected::Certificate(suites))?;
-    let client = &login.user.client;
-    let granted = log_in_by_certificate(rt.alloc(), &mut kdc, client, login.wanted(), &own.means());
+    let granted = granted_certified(rt.alloc(), &mut kdc, login, own);
     let granting = of_exchange(rt.alloc(), login, user, granted)?;
     log_in_with(rt, &mut kdc, login, &granting)
+}
+
+// The ticket-granting ticket by certificate: with algorithm agility, and without where the KDC doesn't take that.
+fn granted_certified(
+    alloc: Global,
+    kdc: &mut KdcPipe<'_>,
+    login: &Login<'_>,
+    own: &Certified,
+) -> Result<Credential, ExchangeFault<Stop>> {
+    let client = &login.user.client;
+    let wanted = login.wanted();
+    let granted = log_in_by_agile_certificate(alloc, kdc, client, wanted, &own.means());
+    if !is_preauth_failed(&granted) {
+        return granted;
+    }
+    drop(granted);
+    log_in_by_certificate(alloc, kdc, client, wanted, &own.means())
+}
+
+// Whether the KDC refused the padata (RFC 4120, section 7.5.9). One without algorithm agility can't read it.
+fn is_preauth_failed(granted: &Result<Credential, ExchangeFault<Stop>>) -> bool {
+    match granted {
+        Err(ExchangeFault::Refused(LoginRefusal::NotTaken(TakeRefusal::Refused(code)))) => {
+            *code == KDC_ERR_PREAUTH_FAILED
+        }
+        _ => false,
+    }
 }
 
 // What an exchange granted, or why the program stops.

@@ -5,3 +5,4 @@ mod SignerLemmas
 mod TakenLemmas
 pub mod Decided
 mod VerifiedParts
+mod AgileRequestLemmas

@@ -5,3 +5,7 @@ pub mod Replies
 pub mod Faults
 pub mod Means
 pub mod Verified
+pub mod AgilePacks
+pub mod AgileRequests
+pub mod AgileReplies
+pub mod AgileMeans

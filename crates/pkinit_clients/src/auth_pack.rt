@@ -34,8 +34,8 @@ pub(crate) fn auth_pack_bytes(
     encoding_of(alloc, pack)
 }
 
-// The PKAuthenticator of a request with this body.
-fn authenticator_of(
+/// The PKAuthenticator of a request with this body.
+pub(crate) fn authenticator_of(
     alloc: Global,
     body: &KdcReqBody,
     second: GeneralizedTime,

@@ -5,8 +5,11 @@
 //! (`IsPkAsReqOf`). [`secret_of`] returns the secret of a reply to this request that the realm signed by a certificate under the
 //! client's anchor, and else `NotTrusted` (`IsTakenAs`). As a client's means, [`ByCertificate`] gives this padata and the reply key of
 //! this secret (`by_certificate`). What a client verifies of a reply is in the reply's own bytes (law `reply_verified_is_part`).
+//! [`agility::AgileCertificate`] is a client with algorithm agility (RFC 8636). It lists CMS types and key derivation functions, takes
+//! signed replies as KDCs send them, and makes the reply key by the function that the KDC chose (`by_agile_certificate`).
 #![tactic(auto)]
 
+pub mod agility;
 mod asked;
 mod auth_pack;
 mod encoding;

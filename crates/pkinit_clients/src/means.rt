@@ -110,8 +110,8 @@ fn reply_key<K: KeyFunctions>(
     }
 }
 
-// The padata-value of the reply's first PA-PK-AS-REP.
-fn pk_as_rep_in(reply: &KdcRep) -> Option<&OctetStringAsn1>
+/// The padata-value of the reply's first PA-PK-AS-REP.
+pub(crate) fn pk_as_rep_in(reply: &KdcRep) -> Option<&OctetStringAsn1>
     ensures { option_copied result ≡ pk_as_rep_in reply.now }
 {
     match &reply.padata.0 {

@@ -108,8 +108,8 @@ fn is_dh_key_data(content: &SignedContent<'_>) -> bool
     content.content_type().as_bytes() == DH_KEY_DATA.as_slice()
 }
 
-// Takes the secret from the eContent octets: they have to be a KDCDHKeyInfo.
-fn take_key_data<K: KeyFunctions>(
+/// Takes the secret from the eContent octets: they have to be a KDCDHKeyInfo.
+pub(crate) fn take_key_data<K: KeyFunctions>(
     alloc: Global,
     keys: &K,
     asked: &PkinitAsked<'_>,

@@ -41,8 +41,9 @@ pub fn pk_as_req<K: KeyFunctions>(
     Ok(Some(bytes))
 }
 
+/// The encoding of a PA-PK-AS-REQ with this signed data.
 #[tactic(auto, unfolding(crate::specs::Requests::pk_as_req_bytes))]
-fn pk_as_req_bytes(alloc: Global, signed: Vec<u8>) -> Result<Vec<u8>, AllocError>
+pub(crate) fn pk_as_req_bytes(alloc: Global, signed: Vec<u8>) -> Result<Vec<u8>, AllocError>
     ensures { IfOk result (λ bytes. bytes.items ≡ pk_as_req_bytes (pk_as_req_of signed.items)) }
 {
     let request = PaPkAsReq {

@@ -1,7 +1,6 @@
 pub mod Replies
 pub mod Sizes
 pub mod AuthPacks
-pub mod AskedPacks
 pub mod ChosenKdfs
 pub mod Contexts
 pub mod DerivedKeys

@@ -14,3 +14,4 @@ mod table;
 pub use general::PolicyPkinit;
 pub use pa_checksum2::PaChecksum2;
 pub use policy::GeneralPolicy;
+pub use signer::check_among;

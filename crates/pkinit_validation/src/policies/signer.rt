@@ -60,8 +60,8 @@ fn takes_digest(policy: GeneralPolicy, digest: DigestAlgorithm) -> bool
     }
 }
 
-// Judges the content by the first of these certificates that its signer names.
-fn check_among<K: KeyFunctions>(
+/// Judges the content by the first of these certificates that its signer names.
+pub fn check_among<K: KeyFunctions>(
     alloc: Global,
     keys: &K,
     expected: &ExpectedSigner<'_>,
