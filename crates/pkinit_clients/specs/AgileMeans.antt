@@ -55,6 +55,7 @@ asked_context client request as_req padata = record {
 -- the reply key by what was found, where the bytes are the client's AS request
 abbrev pub found_key : ClientRecord → Bytes → Bytes → Found → Table (Result KeyRecord TakeRefusal)
 found_key client as_req padata found =
+    -- The client's request is an AS-REQ (RFC 4120, section 5.4.1). No test: a client takes replies to its own requests.
     ask (IsAsReq as_req) (sole_as_req as_req) (done (Err NotTrusted)) (λ request.
     done (Ok (record { suite = client.suite; bytes = key_by client.suite found.1 found.0 (asked_context client request as_req padata) })))
 
@@ -67,6 +68,7 @@ agile_key_in keys anchor client asked as_req padata =
 abbrev pub agile_reply_key : KeysRecord → AnchorRecord → Bytes → ClientRecord → AsAskedRecord → KdcRep → Table (Result KeyRecord TakeRefusal)
 agile_reply_key keys anchor as_req client asked reply =
     -- The AS-REP has padata of the type PA-PK-AS-REP, of which the first counts (RFC 4556, section 3.2.4).
+    -- No test: logins at KDCs alone.
     need (pk_as_rep_in reply) NotTrusted (agile_key_in keys anchor client asked as_req)
 
 -- the means of a client with this certificate, this anchor for the realm's certificate, and these key functions; replies are taken as those to
