@@ -3,7 +3,8 @@
 # krb_kdcd behind krb_listen, with databases, keys and certificates that are made anew: by RSA keys of 2048, 3072 and 4096 bits, from PEM
 # and DER, PKCS#8 and PKCS#1, and at krb5kdc for each suite of AES. MIT's klist, kvno and gss-client use its caches. It is refused with
 # another authority, an expired certificate, another user's certificate or key, a certificate for another name, and where the KDC's
-# certificate doesn't name krbtgt; and files and arguments that it doesn't take are named. Prints what each gave; the status is 1 where one
+# certificate doesn't name krbtgt; and files and arguments that it doesn't take are named. MIT's and Heimdal's kinit log in by certificate at
+# our realm where its line has the word `pkinit-agility`, and don't without it. Prints what each gave; the status is 1 where one
 # differs from what it should, and 2 where a tool is missing. All files are in a temporary folder, and what is started is ended.
 #
 # Usage: examples/certificate_logins.sh [mit|realm..]: at MIT's krb5kdc, or at the KDCs that are named. KRB_LOGIN, KRB_KDCD and KRB_ACCOUNTS
@@ -38,6 +39,7 @@ if ! ls /usr/lib/*/krb5/plugins/preauth/pkinit.so >/dev/null 2>&1; then
 fi
 [ "$missing" -eq 0 ] || exit 2
 program KRB_LOGIN krb_login
+case " $* " in *" realm "*) fetch_heimdal kinit.heimdal heimdal-clients ;; esac
 
 # made FOLDER BITS: an authority, and its certificates for the KDC and the user, with RSA keys of so many bits.
 made() {
@@ -213,6 +215,43 @@ realm_with() {
         "$KRB_ACCOUNTS" make "$work/accounts" "$work/accounts.cdb"
 }
 
+# worded WORDS: the realm's line has these words, and then `pkinit`. krb_kdcd reads its record anew.
+worded() {
+    sed -i "s/^\\(realm\t.*\t\\)limits-des3,[^\t]*\t/\\1limits-des3,$1pkinit\t/" "$work/accounts" && "$KRB_ACCOUNTS" make "$work/accounts" "$work/accounts.cdb"
+}
+
+by_stock() {
+    KRB5_CONFIG=$work/mit.conf KRB5CCNAME=FILE:$work/stock TZ=UTC "$@"
+}
+
+# mit_kinit NAME USER: MIT's kinit by a certificate of the folder.
+mit_kinit() {
+    by_stock kinit -X "X509_user_identity=FILE:$folder/$1.pem,$folder/$1.key" -X "X509_anchors=FILE:$folder/anchor.pem" "$2@EXAMPLE.COM" </dev/null
+}
+
+# heimdal_kinit NAME USER: the same of Heimdal's.
+heimdal_kinit() {
+    LD_LIBRARY_PATH=$libraries by_stock kinit.heimdal "--pk-user=FILE:$folder/$1.pem,$folder/$1.key" "--x509-anchors=FILE:$folder/anchor.pem" "$2@EXAMPLE.COM" </dev/null
+}
+
+# Stock clients, by the policy of the realm.
+stock_rows() {
+    try "MIT's kinit without pkinit-agility" no "" mit_kinit client user
+    try "Heimdal's kinit without pkinit-agility" no "" heimdal_kinit client user
+    try "the word pkinit-agility" yes "" worded "pkinit-agility,"
+    for client in mit heimdal; do
+        rm -f "$work/stock"
+        try "$client's kinit" yes "" "${client}_kinit" client user
+        try "$client's kinit: kvno" yes "kvno = " by_stock kvno "host/$host"
+        try "$client's kinit: another user's certificate" no "" "${client}_kinit" alice user
+        try "$client's kinit: an expired certificate" no "" "${client}_kinit" late user
+    done
+    try "krb_login with pkinit-agility" yes "" login -s "host/$host"
+    uses "our realm with pkinit-agility"
+    try "without the word" yes "" worded ""
+    try "MIT's kinit without the word again" no "" mit_kinit client user
+}
+
 realm_rows() {
     start_realm_kdc
     try "login" yes "" login -s "host/$host"
@@ -220,6 +259,8 @@ realm_rows() {
     sizes realm_with
     refused_rows
     refused_kdcs realm_with "the reply isn't signed by the realm"
+    realm_with "$work/2048" kdc
+    stock_rows
 }
 
 # ==== both
