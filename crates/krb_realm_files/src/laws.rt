@@ -1,12 +1,14 @@
 //! What holds of every record and of every file. Each is a function that does nothing when it runs: its contract is the law.
-ghost use Rattle.std.specs.Prelude.{◌≡◌, ◌≤◌, ◌<◌, ◌^◌, ℕ, List, Some, IsTrue, length};
+ghost use Rattle.std.specs.Prelude.{◌≡◌, ◌≤◌, ◌<◌, ◌^◌, ℕ, List, None, Some, IsTrue, false, length};
 ghost use Rattle.block_ciphers.specs.Bytes.{IsBytes};
 ghost use Rattle.krb_realm_accounts.specs.Account.{AccountRecord};
 ghost use Rattle.krb_realm_accounts.specs.Settings.{AreSettings};
+ghost use Rattle.krb_realm_accounts.specs.declared.policy.Policy.{Policy};
 ghost use Rattle.krb_crypto.specs.Suites.{cipher_key_size};
 ghost use Rattle.krb_kdc_exchanges.specs.Calls.{AreKeyed};
 ghost use Rattle.krb_realm_files.specs.AccountRecords.{account_bytes, account_in};
 ghost use Rattle.krb_realm_files.specs.Files.{IsLookOf, look_of};
+ghost use Rattle.krb_realm_files.specs.Means.{general_policy};
 ghost use Rattle.krb_realm_files.specs.RealmRecords.{is_recorded, realm_bytes, realm_in};
 ghost use Rattle.krb_realm_files.specs.declared.realm_parameters.RealmParameters.{RealmParameters};
 
@@ -33,4 +35,10 @@ pub fn has_look()
 /// (law `has_reply` of `krb_kdc`).
 pub fn are_keyed()
     ensures { (bytes : List ℕ) → IsBytes bytes → AreKeyed (look_of bytes) }
+{}
+
+/// A realm without algorithm agility judges requests by certificate by the rows of RFC 4556 alone: it has no policy beyond them (law
+/// `as_before` of `pkinit_validation::policies`).
+pub fn certificates_as_before()
+    ensures { (policy : Policy) → policy.pkinit_agility ≡ false → general_policy policy ≡ None }
 {}
