@@ -68,7 +68,7 @@ agile_key_in keys anchor client asked as_req padata =
 abbrev pub agile_reply_key : KeysRecord → AnchorRecord → Bytes → ClientRecord → AsAskedRecord → KdcRep → Table (Result KeyRecord TakeRefusal)
 agile_reply_key keys anchor as_req client asked reply =
     -- The AS-REP has padata of the type PA-PK-AS-REP, of which the first counts (RFC 4556, section 3.2.4).
-    -- No test: logins at KDCs alone.
+    -- Test: `no padata`.
     need (pk_as_rep_in reply) NotTrusted (agile_key_in keys anchor client asked as_req)
 
 -- the means of a client with this certificate, this anchor for the realm's certificate, and these key functions; replies are taken as those to

@@ -73,12 +73,12 @@ general_signed_by keys expected content =
 -- Judges signed data.
 abbrev pub of_general_content : KeysRecord → PkinitAskedRecord → GeneralParts → Table (Result Bytes ReplyFault)
 of_general_content keys asked content =
-    -- The eContentType of dhSignedData is id-pkinit-DHKeyData (RFC 4556, section 3.2.3.1). No test: logins at KDCs alone.
+    -- The eContentType of dhSignedData is id-pkinit-DHKeyData (RFC 4556, section 3.2.3.1). Test: `content type of requests`.
     refuse (not (is_general_key_data content)) NotTrusted
-    -- The digestAlgorithm of dhSignedData isn't SHA-1 (RFC 6194). No test: logins at KDCs alone.
+    -- The digestAlgorithm of dhSignedData isn't SHA-1 (RFC 6194). Test: `SHA-1`, `taken, SHA-512`.
     (refuse (not (takes_digest no_sha1 content.algorithm)) NotTrusted
     -- The realm's ticket-granting service krbtgt signed dhSignedData, by a certificate that is accepted under the client's anchor (RFC 4556,
-    -- section 3.2.4). No test: logins at KDCs alone.
+    -- section 3.2.4). Test: `certificate signed by another`, `certificate for krbtgt of another realm`, `certificate past its validity`.
     (and_then (general_signed_by keys (expected_realm asked) content) (λ _.
     of_key_data keys asked (content_of content.info))))
 
@@ -86,14 +86,14 @@ of_general_content keys asked content =
 abbrev pub of_general : KeysRecord → PkinitAskedRecord → Bytes → Table (Result Bytes ReplyFault)
 of_general keys asked bytes =
     -- The octets of dhSignedData are a ContentInfo with SignedData of the general form (RFC 4556, section 3.2.3.1; RFC 5652, section 5).
-    -- No test: logins at KDCs alone.
+    -- Test: `taken, key identifier of Samba`, `taken, signing time there`.
     ask (IsGeneralContent bytes) (one_general bytes) (done (Err NotTrusted)) (of_general_content keys asked)
 
 -- Judges the key derivation function.
 abbrev pub chosen_of : Option (ExplicitContextTag 2 ChosenKdf) → Table (Result (Option Kdf) ReplyFault)
 chosen_of None = done (Ok None)
 chosen_of (Some chosen) =
-    -- The kdf of DHRepInfo, where it is there, is one that the client listed (RFC 8636, section 6). No test: logins at KDCs alone.
+    -- The kdf of DHRepInfo, where it is there, is one that the client listed (RFC 8636, section 6). Test: `KDF 4`, `taken, KDF 2, suite 18`.
     need (kdf_named chosen.0.kdf_id.0.0) NotTrusted (λ kdf. done (Ok (Some kdf)))
 
 -- Judges dhInfo.
@@ -106,5 +106,5 @@ of_info keys asked info =
 -- Judges the padata-value of a PA-PK-AS-REP.
 unfoldable pub agile_secret : KeysRecord → PkinitAskedRecord → Bytes → Table (Result Found ReplyFault)
 agile_secret keys asked padata =
-    -- The padata-value is the one DER encoding of a PA-PK-AS-REP with dhInfo (RFC 4556, section 3.2.3). No test: logins at KDCs alone.
+    -- The padata-value is the one DER encoding of a PA-PK-AS-REP with dhInfo (RFC 4556, section 3.2.3). Test: `encKeyPack`, `00 behind`.
     ask (IsAgileReply padata) (sole_agile_reply padata) (done (Err NotTrusted)) (λ reply. of_info keys asked reply.0)

@@ -1,8 +1,8 @@
 //! Replays vectors of standards and values of other implementations, and compares each with what is made here. `keys`: powers, keys,
 //! signatures and Diffie-Hellman agreements of Python and openssl, and forged signatures. `sealing`: encryption, checksums and keys of the
 //! suites. `signed`: signed data, its signers, and keys in files and certificates. `packs`: AuthPacks with further fields. `general`:
-//! signed data as stock clients send it. `policies`: requests by certificate at realms with a policy. And it compares AES by tables of words
-//! with AES by the steps of FIPS 197.
+//! signed data as stock clients send it. `policies`: requests by certificate at realms with a policy. `agile_replies`: replies to them.
+//! And it compares AES by tables of words with AES by the steps of FIPS 197.
 //!
 //! Then it replays calls of what holds keys: contexts, initiators, acceptors and services, and password changes. It compares each answer with
 //! that of an independent writer, of an independent implementation or of MIT's library.
@@ -12,6 +12,7 @@
 #![tactic(auto)]
 
 mod aes;
+mod agile_replies;
 mod agreement;
 mod agreements;
 mod blocks;
@@ -76,6 +77,7 @@ fn replay_recorded(rt: &HostRuntime) -> anyhow::Result<()> {
     packs::replay_packs(rt)?;
     general::replay_general(rt)?;
     policies::replay_policies(rt)?;
+    agile_replies::replay_agile_replies(rt)?;
     replay_services(rt)
 }
 
