@@ -12,7 +12,7 @@ BLOCK = 4_096  # octets of a name's block, at most
 REALM_KEY = b"\xff"
 KEY_SIZES = {16: 24, 17: 16, 18: 32, 19: 16, 20: 32}  # by the numbers of the suites
 SKEW_LIMIT, LIFETIME_LIMIT = 86_400, 31_536_000
-RESERVED, RENEWABLE_SECOND = 8, 16  # what a policy's number never has, and what it has for each second of the renewable life
+RENEWABLE_SECOND, PKINIT_SHA1 = 16, 2**29  # what a policy's number has for each second of the renewable life, and behind all of them
 
 Account = collections.namedtuple("Account", "suite key kvno salt")  # salt: octets or None
 Realm = collections.namedtuple("Realm", "name skew lifetime policy", defaults=[0])  # policy: its number
@@ -145,7 +145,7 @@ def realm_in(data):
         raise Damaged
     version, skew, lifetime, pkinit, policy = struct.unpack("<BIIII", data[:17])
     name = data[17:]
-    is_policy = not policy & RESERVED and policy // RENEWABLE_SECOND <= LIFETIME_LIMIT
+    is_policy = policy < 2 * PKINIT_SHA1 and policy % PKINIT_SHA1 // RENEWABLE_SECOND <= LIFETIME_LIMIT
     if version != VERSION or pkinit or not is_policy or skew > SKEW_LIMIT or not 1 <= lifetime <= LIFETIME_LIMIT:
         raise Damaged
     if not 1 <= len(name) <= 255 or max(name) > 127:
