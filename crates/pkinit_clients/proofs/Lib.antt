@@ -6,3 +6,4 @@ mod TakenLemmas
 pub mod Decided
 mod VerifiedParts
 mod AgileRequestLemmas
+mod AgileSignerLemmas

@@ -8,7 +8,7 @@ use asn1_der::octets::SEQUENCE;
 use krb_messages::messages::KdcReqBody;
 use picky_asn1::date::GeneralizedTime;
 use picky_asn1::wrapper::{Asn1SequenceOf, ObjectIdentifierAsn1};
-use picky_asn1_der::{Asn1RawDer, ExplicitContextTag, RawElement, both, encoding_of};
+use picky_asn1_der::{Asn1RawDer, ExplicitContextTag, RawElement, encoding_of};
 use pkinit_messages::agility::{AgileAuthPack, ChosenKdf, Kdf};
 use std::alloc::{AllocError, Global};
 
@@ -38,11 +38,9 @@ pub(crate) fn agile_pack_bytes(
 ) -> Result<Vec<u8>, AllocError>
     ensures { IfOk result (λ bytes. bytes.items ≡ agile_pack_bytes (agile_pack_of (authenticator_of body.now second microsecond) value)) }
 {
-    let lists = both(cms_types(alloc), kdfs(alloc));
-    let (authenticator, (types, functions)) = both(
-        authenticator_of(alloc, body, second, microsecond),
-        lists,
-    )?;
+    let authenticator = authenticator_of(alloc, body, second, microsecond)?;
+    let types = cms_types(alloc)?;
+    let functions = kdfs(alloc)?;
     let pack = AgileAuthPack {
         pk_authenticator: ExplicitContextTag(authenticator),
         client_public_value: ExplicitContextTag(value),
