@@ -4,10 +4,11 @@
 //! prints the options.
 //!
 //! By password or keytab it first sends an AS request without padata, which lists the suites. The KDC answers by error 25 with a suite and
-//! a salt, or by a reply. After the error it sends the request with an encrypted timestamp. By certificate its one AS request has the
-//! padata PA-PK-AS-REQ (RFC 4556), and lists the suites. Then it sends one TGS request for each service, which lists them too. So a KDC
-//! gets two AS requests at most, and no request follows an error but the second of these. With `-R` its first request is a TGS request
-//! instead, which renews the cache's ticket-granting ticket.
+//! a salt, or by a reply. After the error it sends the request with an encrypted timestamp. By certificate its AS request has the padata
+//! PA-PK-AS-REQ (RFC 4556) with algorithm agility (RFC 8636), and lists the suites. After error 24 it sends one without algorithm agility,
+//! since a KDC may not know that. Then it sends one TGS request for each service, which lists the suites too. So a KDC gets two AS requests
+//! at most, and no request follows an error but the second of these. With `-R` its first request is a TGS request instead, which renews the
+//! cache's ticket-granting ticket.
 //!
 //! Without `-e` the suites are those of AES, and a password's salt is the default one. Errors aren't authenticated: a forged one gets no
 //! encrypted timestamp in another suite, and none under another salt. A session key of a suite that wasn't listed is refused.
