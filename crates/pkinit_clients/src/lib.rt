@@ -7,6 +7,7 @@
 //! this secret (`by_certificate`). What a client verifies of a reply is in the reply's own bytes (law `reply_verified_is_part`).
 //! [`agility::AgileCertificate`] is a client with algorithm agility (RFC 8636). It lists CMS types and key derivation functions, takes
 //! signed replies as KDCs send them, and makes the reply key by the function that the KDC chose (`by_agile_certificate`).
+//! What it signs is an AuthPack that a realm with algorithm agility reads (law `agile_pack_is_extensible`).
 #![tactic(auto)]
 
 pub mod agility;
