@@ -72,7 +72,8 @@ fn push_algorithm(
     let Some(element) = RawElement::new(SEQUENCE, content) else {
         unreachable!()
     };
-    types.push(element)
+    types.push(element)?;
+    Ok(())
 }
 
 // The key derivation functions.
@@ -92,5 +93,6 @@ fn push_kdf(alloc: Global, functions: &mut Vec<ChosenKdf>, kdf: Kdf) -> Result<(
     let oid = kdf.identifier(alloc)?;
     functions.push(ChosenKdf {
         kdf_id: ExplicitContextTag(ObjectIdentifierAsn1(oid)),
-    })
+    })?;
+    Ok(())
 }
