@@ -62,7 +62,7 @@ fn is_taken(alloc: Global, head: &str, columns: &[Vec<u8>], wanted: &str) -> any
             anchor: &anchor,
             keys: &keys,
         },
-        as_req: request,
+        as_req: request.as_slice(),
     };
     let key = key_of(alloc, &means, &client, &asked, reply)?;
     is_wanted(alloc, &key, wanted)
