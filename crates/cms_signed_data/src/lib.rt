@@ -10,16 +10,17 @@
 //!
 //! Each type is read from each accepted spelling, its deviations are counted, and it is written in DER (`Spelled`). `OfForm::is_of_form`
 //! is true exactly of the values of the one form (`has_form`). The places of certificate, content, signed attributes, digest and signature
-//! in the bytes follow from the spelling (law `parts_held` in `specs/`). The parts are returned exactly where the bytes are signed content of the one form (`SignedContent::read`). Each slice is the part of the
-//! input at its path, and `covered` is the part of the signed attributes with the first octet 31. `SignedContent::write` writes that form
-//! around the given certificate's own bytes, and it is read back (law `written_is_read`). Its `None` says that the party doesn't sign, and
-//! `Unreadable` that the bytes are no certificate. [`general_form::DigestAlgorithm::named`] is the digest algorithm that an identifier names
-//! with no parameters or NULL (RFC 3370, section 2.1; RFC 5754, section 2). [`general_form::GeneralContent::read`] takes signed data as it is
-//! sent, and nothing else (`IsGeneralContent`). Certificates, the signer's identifier and the signature's algorithm are held as whole
-//! elements, so that what deviates from DER in them stays in them. All else is DER. The digest algorithm is one of SHA-1, SHA-256, SHA-384
-//! and SHA-512; whether it is taken is for the caller to judge, and so is the signature. [`general_form::names`] says whether a signer's
-//! identifier names a certificate. Bytes are one such content at most (law `one_general_content`). Signed content of the one form is such
-//! content, with the same parts (law `one_form_is_general`).
+//! in the bytes follow from the spelling (law `parts_held` in `specs/`). The parts are returned exactly where the bytes are signed content
+//! of the one form (`SignedContent::read`). Each slice is the part of the input at its path, and `covered` is the part of the signed
+//! attributes with the first octet 31. `SignedContent::write` writes that form around the given certificate's own bytes, and it is read
+//! back (law `written_is_read`). Its `None` says that the party doesn't sign, and `Unreadable` that the bytes are no certificate.
+//! [`general_form::DigestAlgorithm::named`] is the digest algorithm that an identifier names with no parameters or NULL (RFC 3370, section
+//! 2.1; RFC 5754, section 2). [`general_form::GeneralContent::read`] takes signed data as it is sent, and nothing else
+//! (`IsGeneralContent`). Certificates, the signer's identifier and the signature's algorithm are held as whole elements, so that what
+//! deviates from DER in them stays in them. All else is DER. The digest algorithm is one of SHA-1, SHA-256, SHA-384 and SHA-512; whether
+//! it is taken is for the caller to judge, and so is the signature. [`general_form::names`] says whether a signer's identifier names a
+//! certificate. Bytes are one such content at most (law `one_general_content`). Signed content of the one form is such content, with the
+//! same parts (law `one_form_is_general`).
 #![tactic(auto)]
 
 mod around;

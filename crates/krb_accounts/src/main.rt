@@ -61,8 +61,9 @@ made of the system's random octets. NAME is as in host/server.example.com. In PA
 SUITE is a name such as aes256-cts-hmac-sha1-96, which is also that of create and add if none is given. key keeps the account's suite.
 CERTIFICATE, KEY and ANCHOR are files, in PEM or DER. KEY has at least 2,048 bits, and is not encrypted.
 The realm's policy is set in TEXT by an editor: behind skew and lifetime, with a tab between each two, the realm's line has the words and -,
-or with the word pkinit what certify writes. The words are limits-des3, forwardable, proxiable, renewable=SECONDS, pkinit-agility, pkinit-sha1 and pkinit, in this order,
-with a comma between each two. SECONDS, from 1 to 31536000, is how long a ticket may be renewed. What has no word is off.";
+or with the word pkinit what certify writes. The words are limits-des3, forwardable, proxiable, renewable=SECONDS, pkinit-agility,
+pkinit-sha1 and pkinit, in this order, with a comma between each two. SECONDS, from 1 to 31536000, is how long a ticket may be renewed.
+What has no word is off.";
 
 fn main(rt: HostRuntime) -> ExitCode {
     match run(&rt) {

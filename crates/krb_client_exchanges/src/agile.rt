@@ -20,9 +20,9 @@ use x509_keys::KeyFunctions;
 /// Gets a ticket-granting ticket of the client's realm by certificate with algorithm agility (RFC 8636). The client's own suite doesn't
 /// count.
 ///
-/// The one request has the padata PA-PK-AS-REQ with lists of CMS types and of key derivation functions. It lists the wanted suites, of which
-/// the KDC chooses one. The reply is taken if the realm signed it by a certificate under the client's anchor, and its session key is of a
-/// wanted suite.
+/// The one request has the padata PA-PK-AS-REQ with lists of CMS types and of key derivation functions. It lists the wanted suites, of
+/// which the KDC chooses one. The reply is taken if the realm signed it by a certificate under the client's anchor, and its session key is
+/// of a wanted suite.
 pub fn log_in_by_agile_certificate<K: Kdc, Y: KeyFunctions>(
     alloc: Global,
     kdc: &mut K,

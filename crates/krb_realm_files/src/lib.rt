@@ -19,9 +19,9 @@
 //! request, and as `Accounts` only if the file may not be opened or read, or is damaged for that message (`IsDamagedFor`). It is so at the
 //! realm's record, at an account that the message involves, and, if it asks by certificate, at what such logins are answered by.
 //! `answer_from` tells a failed read (`Failed`) from damage (`Damaged`). `means_in` refuses a key that is too weak, and one that isn't the
-//! certificate's. Where the realm's policy has algorithm agility, requests by certificate are judged by
-//! [`pkinit_validation::policies`], and else as before (law `certificates_as_before`). The fault is given to [`FaultReporter`] before the refusal is returned, which no contract says. What an observer sees is
-//! of the message, of its reply and of the opened file (`IsToldFrom`).
+//! certificate's. Where the realm's policy has algorithm agility, requests by certificate are judged by [`pkinit_validation::policies`],
+//! and else as before (law `certificates_as_before`). The fault is given to [`FaultReporter`] before the refusal is returned, which no
+//! contract says. What an observer sees is of the message, of its reply and of the opened file (`IsToldFrom`).
 #![tactic(auto)]
 
 mod account_file;

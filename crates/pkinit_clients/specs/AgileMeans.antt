@@ -27,7 +27,8 @@ use Rattle.pkinit_clients.specs.AgileReplies.{Found, agile_secret}
 use Rattle.pkinit_clients.specs.AgileRequests.{IsAgileRequest, IsNoAgileRequest, sole_agile_request}
 use Rattle.pkinit_clients.specs.Means.{pk_as_rep_in, pkinit_asked}
 
--- The padata of a request has the type PA-PK-AS-REQ. Its padata-value is a PA-PK-AS-REQ with the client's lists, for this body, at the moment.
+-- The padata of a request has the type PA-PK-AS-REQ. Its padata-value is a PA-PK-AS-REQ with the client's lists, for this body, at the
+-- moment.
 pub record IsAgilePadata (keys : KeysRecord) (certificate : Bytes) (body : KdcReqBody) (moment : Micros) (words : Random) (padata : PaData) : Type 0 where
   pub value : Bytes
   pub is_request : IsAgileRequest keys certificate body moment (agreement_part words) value
@@ -71,8 +72,8 @@ agile_reply_key keys anchor as_req client asked reply =
     -- Test: `no padata`.
     need (pk_as_rep_in reply) NotTrusted (agile_key_in keys anchor client asked as_req)
 
--- the means of a client with this certificate, this anchor for the realm's certificate, and these key functions; replies are taken as those to
--- this AS request
+-- the means of a client with this certificate, this anchor for the realm's certificate, and these key functions; replies are taken as
+-- those to this AS request
 abbrev pub by_agile_certificate : Bytes → AnchorRecord → KeysRecord → Bytes → MeansRecord
 by_agile_certificate certificate anchor keys as_req = record {
   asks = IsAgilePadata keys certificate;

@@ -77,8 +77,9 @@ of_general_content keys asked content =
     refuse (not (is_general_key_data content)) NotTrusted
     -- The digestAlgorithm of dhSignedData isn't SHA-1 (RFC 6194). Test: `SHA-1`, `taken, SHA-512`.
     (refuse (not (takes_digest no_sha1 content.algorithm)) NotTrusted
-    -- The realm's ticket-granting service krbtgt signed dhSignedData, by a certificate that is accepted under the client's anchor (RFC 4556,
-    -- section 3.2.4). Test: `certificate signed by another`, `certificate for krbtgt of another realm`, `certificate past its validity`.
+    -- The realm's ticket-granting service krbtgt signed dhSignedData, by a certificate that is accepted under the client's anchor (RFC
+    -- 4556, section 3.2.4). Test: `certificate signed by another`, `certificate for krbtgt of another realm`,
+    -- `certificate past its validity`.
     (and_then (general_signed_by keys (expected_realm asked) content) (λ _.
     of_key_data keys asked (content_of content.info))))
 
@@ -93,7 +94,8 @@ of_general keys asked bytes =
 abbrev pub chosen_of : Option (ExplicitContextTag 2 ChosenKdf) → Table (Result (Option Kdf) ReplyFault)
 chosen_of None = done (Ok None)
 chosen_of (Some chosen) =
-    -- The kdf of DHRepInfo, where it is there, is one that the client listed (RFC 8636, section 6). Test: `KDF 4`, `taken, KDF 2, suite 18`.
+    -- The kdf of DHRepInfo, where it is there, is one that the client listed (RFC 8636, section 6). Test: `KDF 4`,
+    -- `taken, KDF 2, suite 18`.
     need (kdf_named chosen.0.kdf_id.0.0) NotTrusted (λ kdf. done (Ok (Some kdf)))
 
 -- Judges dhInfo.

@@ -23,8 +23,8 @@ pub fn reply_verified_is_part()
         → IsVerifiedPart bytes signed content }
 {}
 
-/// What a client with algorithm agility signs is an AuthPack that a realm with algorithm agility reads, from the same bytes. It does nothing
-/// when it runs: its contract is the law.
+/// What a client with algorithm agility signs is an AuthPack that a realm with algorithm agility reads, from the same bytes. It does
+/// nothing when it runs: its contract is the law.
 pub fn agile_pack_is_extensible()
     ensures { (authenticator : PkAuthenticator) (value : Raw) (bytes : Bytes) → IsAgilePack bytes (agile_pack_of authenticator value)
         → IsExtensibleAuthPack bytes (asked_widened authenticator value) }

@@ -17,8 +17,8 @@
 //! element is the one encoding, if there is one. [`request_fault`] tells which row of a PA-PK-AS-REQ ends with KDC_ERR_PREAUTH_FAILED,
 //! where one does. A [`policies::PolicyPkinit`] is a [`RealmPkinit`] with a policy, or without. Without a policy its rows are those of the
 //! realm alone (law `policies::laws::as_before`). With one it takes signed data and an AuthPack as stock clients send them, and makes the
-//! reply key by a key derivation function that the client lists (`general_table`). Each such request has an outcome (`has_general`). What is
-//! granted without a policy is granted with one (law `policies::laws::takes_no_less`).
+//! reply key by a key derivation function that the client lists (`general_table`). Each such request has an outcome (`has_general`). What
+//! is granted without a policy is granted with one (law `policies::laws::takes_no_less`).
 #![tactic(auto)]
 
 mod accepted;

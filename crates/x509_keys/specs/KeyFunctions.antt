@@ -20,8 +20,8 @@ abbrev pub theirs_of : lent.Theirs → TheirValue
 theirs_of (variant.Whole element) = WholeValue element.now
 theirs_of (variant.Bits bits) = ValueBits bits.now
 
--- whether a signature verifies, and whether one by RSA with SHA-1 does; the signature of some bytes; the public value, and the shared secret, that random bytes give; and that
--- each signature names an algorithm that has an encoding
+-- whether a signature verifies, and whether one by RSA with SHA-1 does; the signature of some bytes; the public value, and the shared
+-- secret, that random bytes give; and that each signature names an algorithm that has an encoding
 pub record KeysRecord : Type 0 where
   pub verifies : SubjectPublicKeyInfo → AlgorithmIdentifier → Bytes → Bytes → Bool
   pub verifies_sha1 : SubjectPublicKeyInfo → Bytes → Bytes → Bool
