@@ -9,6 +9,7 @@ mod Spans
 pub mod Parts
 pub mod HasGrant
 pub mod Replied
+mod AgreedKeyMade
 pub mod AsHasOutcome
 mod AsJudged
 mod PresentedTrees

@@ -5,6 +5,7 @@ mod JudgedReading
 mod JudgedParts
 mod SignerLemmas
 mod SignedLemmas
+mod PolicyFieldLemmas
 mod PolicySignerLemmas
 mod WidenedLemmas
 mod NoLessLemmas

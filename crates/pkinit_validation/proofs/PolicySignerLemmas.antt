@@ -1,5 +1,5 @@
--- What a certificate of the list comes to, the list comes to.
-use Rattle.std.proofs.Common.{◌≡◌, ℕ, true, List, ◌∷◌, Option, None, Some, Result, Ok, Err, sym, subst, inl, inr}
+-- What a certificate of the list comes to, the list comes to; and what the list comes to, the signer does.
+use Rattle.std.proofs.Common.{◌≡◌, ℕ, true, not, List, ◌∷◌, Option, None, Some, Result, Ok, Err, refl, sym, ap, subst, inl, inr}
 use Rattle.picky_asn1.specs.Bytes.{Bytes}
 use Rattle.picky_asn1_der.specs.Raw.{Raw}
 use Rattle.picky_asn1_der.specs.Splits.{raw_bytes}
@@ -11,15 +11,22 @@ use Rattle.x509_algorithms.specs.declared.algorithm_kinds.AlgorithmIdentifierPar
 use Rattle.x509_certificates.specs.declared.certificate.Certificate.{Certificate}
 use Rattle.x509_keys.specs.KeyFunctions.{KeysRecord}
 use Rattle.std.specs.Prelude.{IsTrue}
+use Rattle.decision_tables.specs.One.{IsSole}
+use Rattle.decision_tables.specs.Tables.{Table, and_then_told, ask, done}
+use Rattle.krb_constants.specs.declared.error_codes.TheConstants.{KDC_ERR_DIGEST_IN_SIGNED_DATA_NOT_ACCEPTED}
+use Rattle.krb_messages.specs.Refusals.{Code, IsJudged}
+use Rattle.krb_messages.specs.declared.refusal.Refusal.{Refusal}
 use Rattle.cms_signed_data.specs.GeneralContents.{GeneralParts}
 use Rattle.cms_signed_data.specs.Identifiers.{names}
 use Rattle.pkinit_validation.specs.Certificates.{IsCertificate, ReadRecord}
 use Rattle.pkinit_validation.specs.Expected.{ExpectedRecord}
-use Rattle.pkinit_validation.specs.Refusals.{IsOutcome}
+use Rattle.pkinit_validation.specs.Refusals.{IsOutcome, as_answer, code_of, request_refusal}
 use Rattle.pkinit_validation.specs.declared.refusal.TrustFault.{TrustFault}
 use Rattle.pkinit_validation.specs.declared.refusal.TrustFault.TheVariants.{Refused, Memory}
 use Rattle.pkinit_validation.specs.declared.refusal.TrustRefusal.{TrustRefusal}
-use Rattle.pkinit_validation.specs.GeneralTrust.{IsJudgedAs, IsJudgedBy, rsa_named, sid_of, trusted_among}
+use Rattle.pkinit_validation.specs.GeneralTrust.{IsJudgedAs, IsJudgedBy, certificates_of, general_signer, rsa_named, sid_of, takes_digest, trusted_among}
+use Rattle.pkinit_validation.specs.declared.policies.policy.GeneralPolicy.{GeneralPolicy}
+use Rattle.pkinit_validation.proofs.WidenedLemmas.{by_refuse}
 
 module _ (keys : KeysRecord) (expected : ExpectedRecord) (parts : GeneralParts) where
   -- what the rest of a list comes to, the list comes to, where no certificate in front of it is named
@@ -52,6 +59,43 @@ told_outcome gives outcome given (Ok value) is = subst gives (sym is) given
 told_outcome gives outcome given (Err (Refused refusal)) is = subst gives (sym is) given
 told_outcome gives outcome given (Err Memory) is = tt
 
+-- the outcome for which an answer is one is the table's
+pub outcome_back : (gives : Result (Unit {0}) TrustRefusal → Type 0) (outcome : Result (Unit {0}) TrustRefusal) (answer : Result (Unit {0}) TrustFault)
+    → IsOutcome gives answer → answer ≡ as_answer outcome → gives outcome
+outcome_back gives (Ok value) answer is same = subst (λ (a : Result (Unit {0}) TrustFault). IsOutcome gives a) same is
+outcome_back gives (Err refusal) answer is same = subst (λ (a : Result (Unit {0}) TrustFault). IsOutcome gives a) same is
+
+-- what the cases behind a value that was read give, the table gives
+pub outcome_ask : {A T : Type 0} (P : A → Type 0) (sole : IsSole P) (otherwise : Table (Result T TrustRefusal)) (rest : A → Table (Result T TrustRefusal)) (a : A)
+    (r : Result T TrustFault) → P a → IsOutcome (rest a).gives r → IsOutcome (ask P sole otherwise rest).gives r
+outcome_ask P sole otherwise rest a (Ok x) p g = inl (a, p, g)
+outcome_ask P sole otherwise rest a (Err (Refused refusal)) p g = inl (a, p, g)
+outcome_ask P sole otherwise rest a (Err Memory) p g = tt
+
 -- an algorithm that was made of RSA with NULL
 pub made_rsa : (arcs : List ℕ) (is : IsTrue (is_parameters_of arcs kind.Null)) (made : AlgorithmIdentifier) → IsMade arcs kind.Null made → made ≡ rsa_named arcs is
 made_rsa arcs is made parts = same_parts made (rsa_named arcs is) (λ i. record { 0 = parts.0 i }) parts.1
+
+-- What the certificates come to is told as the table of requests has it, where the policy takes the digest algorithm.
+module _ (keys : KeysRecord) (policy : GeneralPolicy) (expected : ExpectedRecord) (parts : GeneralParts) (takes : takes_digest policy parts.algorithm ≡ true)
+    (certificates : List Raw) (same : certificates ≡ certificates_of parts) where
+  abbrev by_certificates : Table (Result (Unit {0}) Code)
+  by_certificates = and_then_told code_of (trusted_among keys expected parts (certificates_of parts)) (λ _. done (Ok tt))
+
+  signer_gives : (r : Result (Unit {0}) Code) → by_certificates.gives r → (general_signer keys policy expected parts).gives r
+  signer_gives r given =
+      by_refuse {T = Unit {0}} {E = Code} (not (takes_digest policy parts.algorithm)) KDC_ERR_DIGEST_IN_SIGNED_DATA_NOT_ACCEPTED by_certificates r (ap not takes) given
+
+  pub signed_general : (trusted_among keys expected parts certificates).gives (Ok tt) → IsJudged (general_signer keys policy expected parts).gives (Ok tt)
+  signed_general is = signer_gives (Ok tt) (inl (tt, subst (λ (l : List Raw). (trusted_among keys expected parts l).gives (Ok tt)) same is, refl))
+
+  refused_general : (fault : TrustFault) → IsOutcome (trusted_among keys expected parts certificates).gives (Err fault)
+      → IsJudged (general_signer keys policy expected parts).gives (Err (request_refusal fault))
+  refused_general (Refused refusal) is =
+      signer_gives (Err (code_of refusal)) (inr (refusal, subst (λ (l : List Raw). (trusted_among keys expected parts l).gives (Err refusal)) same is, refl))
+  refused_general Memory is = tt
+
+  pub refused_general_as : (fault : TrustFault) (refusal : Refusal) → refusal ≡ request_refusal fault → IsOutcome (trusted_among keys expected parts certificates).gives (Err fault)
+      → IsJudged (general_signer keys policy expected parts).gives (Err refusal)
+  refused_general_as fault refusal is outcome =
+      subst (λ (r : Refusal). IsJudged (general_signer keys policy expected parts).gives (Err r)) (sym is) (refused_general fault outcome)

@@ -37,9 +37,13 @@ sole_pa_checksum field v w p q =
     let same = wrapped-injective context_5_octet checksum_tree checksum-injective v.0 w.0 p.0 q.0 (sym p.1 ∙ q.1) in
     λ i. record { 0 = same i }
 
+-- the field's tag has the number 5
+abbrev pub is_fifth : Raw → Bool
+is_fifth field = (field.first % 32) == 5
+
 -- the further field [5] of PKAuthenticator, if it is there
 abbrev pub second_checksum_in : ExtensibleAuthPack → Option Raw
-second_checksum_in pack = find (λ field. (field.first % 32) == 5) (authenticator_in pack).further
+second_checksum_in pack = find is_fifth (authenticator_in pack).further
 
 -- the checksum is this algorithm's digest of the bytes
 abbrev pub is_digest_by : Option DigestAlgorithm → Bytes → Bytes → Bool

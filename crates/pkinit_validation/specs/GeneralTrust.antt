@@ -103,18 +103,28 @@ verifies_by keys certificate parts algorithm =
 abbrev pub verifies_under : KeysRecord → Certificate → GeneralParts → AlgorithmIdentifier → Bool
 verifies_under keys certificate parts algorithm = verifies_by keys certificate parts (signature_under parts.algorithm algorithm)
 
+-- Judges whether the signature verifies by this algorithm.
+abbrev pub verified_by : KeysRecord → Certificate → GeneralParts → AlgorithmIdentifier → Table (Result (Unit {0}) TrustRefusal)
+verified_by keys certificate parts algorithm =
+    -- The signature verifies under the certificate's key over the signed attributes with the tag of a SET OF (RFC 5652, section 5.4).
+    -- Test: `signature over [0]`, `signature by another key`.
+    refuse (not (verifies_under keys certificate parts algorithm)) InvalidSignature
+    (done (Ok tt))
+
+-- Judges the signature by its algorithm.
+abbrev pub by_algorithm : KeysRecord → Certificate → GeneralParts → Table (Result (Unit {0}) TrustRefusal)
+by_algorithm keys certificate parts =
+    -- The signatureAlgorithm is an algorithm that is known (RFC 5652, section 5.3). Test: `signature algorithm NULL`.
+    ask (IsAlgorithm parts.info.content.0.signer_infos.0.signature_algorithm) (sole_algorithm parts.info.content.0.signer_infos.0.signature_algorithm) (done (Err InvalidSignature))
+    (verified_by keys certificate parts)
+
 -- Judges whether the certificate's holder signed the content.
 abbrev pub general_signed_by : KeysRecord → Certificate → GeneralParts → Table (Result (Unit {0}) TrustRefusal)
 general_signed_by keys certificate parts =
     -- The message-digest attribute is the digest of the eContent octets, by the digestAlgorithm (RFC 5652, sections 5.4 and 5.6).
     -- Test: `digest of other content`, `granted, SHA-384`, `granted, SHA-512`.
     refuse (not (pointwise nat_eq (digest_by parts.algorithm (content_of parts.info)) parts.digest)) InvalidSignature
-    -- The signatureAlgorithm is an algorithm that is known (RFC 5652, section 5.3). Test: `signature algorithm NULL`.
-    (ask (IsAlgorithm parts.info.content.0.signer_infos.0.signature_algorithm) (sole_algorithm parts.info.content.0.signer_infos.0.signature_algorithm) (done (Err InvalidSignature)) (λ algorithm.
-    -- The signature verifies under the certificate's key over the signed attributes with the tag of a SET OF (RFC 5652, section 5.4).
-    -- Test: `signature over [0]`, `signature by another key`.
-    refuse (not (verifies_under keys certificate parts algorithm)) InvalidSignature
-    (done (Ok tt))))
+    (by_algorithm keys certificate parts)
 
 -- Judges signed data by the signer's certificate: first the certificate, then the signature.
 abbrev pub by_certificate : KeysRecord → ExpectedRecord → GeneralParts → ReadRecord → Table (Result (Unit {0}) TrustRefusal)

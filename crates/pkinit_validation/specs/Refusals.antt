@@ -21,6 +21,11 @@ abbrev pub request_refusal : TrustFault → krb.Refusal
 request_refusal (Refused refusal) = krb_variant.Krb (code_of refusal)
 request_refusal Memory = krb_variant.Memory
 
+-- the answer for an outcome
+abbrev pub as_answer : Result (Unit {0}) TrustRefusal → Result (Unit {0}) TrustFault
+as_answer (Ok value) = Ok value
+as_answer (Err refusal) = Err (Refused refusal)
+
 -- memory aside, the answer is an outcome of the table
 abbrev pub IsOutcome : {T : Type 0} → (Result T TrustRefusal → Type 0) → Result T TrustFault → Type 0
 IsOutcome gives (Ok value) = gives (Ok value)

@@ -1,8 +1,9 @@
 //! The checksum of a request's body by a digest of the client's choice.
-ghost use Rattle.std.specs.Prelude.{◌≡◌, ◌%◌, IfOk};
+ghost use Rattle.std.specs.Prelude.{◌≡◌, IfOk};
+ghost use Rattle.std.specs.List.{find};
 ghost use Rattle.std.specs.Option.{option_copied};
 ghost use Rattle.picky_asn1_der.specs.Found.{IsFound};
-ghost use Rattle.pkinit_validation.specs.Checksums.{IsPaChecksum2, is_checksum_of, second_checksum_in};
+ghost use Rattle.pkinit_validation.specs.Checksums.{IsPaChecksum2, is_checksum_of, is_fifth, second_checksum_in};
 
 use crate::policies::pa_checksum2::PaChecksum2;
 use cms_signed_data::general_form::DigestAlgorithm;
@@ -26,12 +27,20 @@ impl PaChecksum2 {
 pub(crate) fn second_checksum(pack: &ExtensibleAuthPack) -> Option<&FurtherField>
     ensures { option_copied result ≡ second_checksum_in pack.now }
 {
-    pack.pk_authenticator
-        .0
-        .further
-        .as_slice()
-        .iter()
-        .find(|field| field.first() % 32 == 5)
+    fifth_among(pack.pk_authenticator.0.further.as_slice())
+}
+
+// The first of these fields whose tag has the number 5.
+fn fifth_among(fields: &[FurtherField]) -> Option<&FurtherField>
+    ensures { option_copied result ≡ find is_fifth fields.now }
+{
+    fields.iter().find(|field| is_fifth(field))
+}
+
+fn is_fifth(field: &FurtherField) -> bool
+    ensures { result ≡ is_fifth field.now }
+{
+    field.first() % 32 == 5
 }
 
 /// The paChecksum2 that the field is, or `None`.

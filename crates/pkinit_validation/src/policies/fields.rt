@@ -48,10 +48,11 @@ fn check_covers(alloc: Global, body: &KdcReqBody, pack: &ExtensibleAuthPack) -> 
     ensures { IsJudged (covers body.now pack.now).gives result }
 {
     let bytes = body_bytes(alloc, body)?;
-    if !is_sha1_of(&bytes, pack.checksum()) {
+    let octets = bytes.as_slice();
+    if !is_sha1_of(octets, pack.checksum()) {
         return Err(Refusal::Krb(error_codes::KDC_ERR_PREAUTH_FAILED));
     }
-    check_second(alloc, &bytes, second_checksum(pack))
+    check_second(alloc, octets, second_checksum(pack))
 }
 
 fn is_sha1_of(bytes: &[u8], checksum: Option<&OctetStringAsn1>) -> bool

@@ -6,8 +6,10 @@ ghost use Rattle.asn1_leaves.specs.ObjectIdentifier.{oid_content};
 ghost use Rattle.picky_asn1_der.specs.Found.{IsFound};
 ghost use Rattle.krb_messages.specs.Refusals.{IsJudged};
 ghost use Rattle.pkinit_validation.specs.Expected.{expected_of};
-ghost use Rattle.pkinit_validation.specs.Refusals.{IsOutcome};
-ghost use Rattle.pkinit_validation.specs.GeneralTrust.{IsAlgorithm, IsJudgedAs, IsJudgedBy, by_certificate, general_signed_by, general_signer, is_sha1, rsa_beside, takes_digest, trusted_among, verifies_by, verifies_under};
+ghost use Rattle.cms_signed_data.specs.Digests.{digest_by};
+ghost use Rattle.cms_signed_data.specs.GeneralContents.{content_of};
+ghost use Rattle.pkinit_validation.specs.Refusals.{IsOutcome, as_answer};
+ghost use Rattle.pkinit_validation.specs.GeneralTrust.{IsAlgorithm, IsJudgedAs, IsJudgedBy, by_algorithm, by_certificate, general_signed_by, general_signer, is_sha1, rsa_beside, takes_digest, trusted_among, verified_by, verifies_by, verifies_under};
 
 use crate::certificates::read_signed;
 use crate::policies::policy::GeneralPolicy;
@@ -118,12 +120,22 @@ fn judged_as<K: KeyFunctions>(
 ) -> Result<Option<Result<(), TrustRefusal>>, AllocError>
     ensures { IfOk result (IsJudgedAs (K.functions keys.now) (expected_of expected.now) content.now (record { certificate = certificate.now; signed = signed.now })) }
 {
-    if !names(alloc, content.sid(), certificate)? {
+    let named = names(alloc, content.sid(), certificate)?;
+    if !named {
         return Ok(None);
     }
-    match check_certificate(alloc, keys, expected, content, certificate, signed) {
-        Ok(()) => Ok(Some(Ok(()))),
-        Err(TrustFault::Refused(refusal)) => Ok(Some(Err(refusal))),
+    let answer = check_certificate(alloc, keys, expected, content, certificate, signed);
+    let outcome = outcome_of(answer)?;
+    Ok(Some(outcome))
+}
+
+// The outcome for which this is the answer.
+fn outcome_of(answer: Result<(), TrustFault>) -> Result<Result<(), TrustRefusal>, AllocError>
+    ensures { IfOk result (λ outcome. answer ≡ as_answer outcome) }
+{
+    match answer {
+        Ok(()) => Ok(Ok(())),
+        Err(TrustFault::Refused(refusal)) => Ok(Err(refusal)),
         Err(TrustFault::Memory) => Err(AllocError),
     }
 }
@@ -152,16 +164,49 @@ fn check_signature<K: KeyFunctions>(
 ) -> Result<(), TrustFault>
     ensures { IsOutcome (general_signed_by (K.functions keys.now) certificate.now content.now).gives result }
 {
-    let digest = content.digest_algorithm();
-    if !digest.is_digest_of(content.content(), content.digest()) {
+    if !has_digest(content) {
         return Err(TrustFault::Refused(TrustRefusal::InvalidSignature));
     }
+    check_by_algorithm(alloc, keys, certificate, content)
+}
+
+// Whether the digest is that of the content.
+fn has_digest(content: &GeneralContent) -> bool
+    ensures { result ≡ pointwise nat_eq (digest_by content.now.algorithm (content_of content.now.info)) content.now.digest }
+{
+    let digest = content.digest_algorithm();
+    digest.is_digest_of(content.content(), content.digest())
+}
+
+// Judges the signature by its algorithm.
+fn check_by_algorithm<K: KeyFunctions>(
+    alloc: Global,
+    keys: &K,
+    certificate: &Certificate,
+    content: &GeneralContent,
+) -> Result<(), TrustFault>
+    ensures { IsOutcome (by_algorithm (K.functions keys.now) certificate.now content.now).gives result }
+{
     let Some(algorithm) = algorithm_in(alloc, content.signature_algorithm())? else {
         return Err(TrustFault::Refused(TrustRefusal::InvalidSignature));
     };
-    let verified = is_verified(alloc, keys, certificate, content, &algorithm);
+    let judged = check_verified(alloc, keys, certificate, content, &algorithm);
     drop(algorithm);
-    if !verified? {
+    judged
+}
+
+// Judges whether the signature verifies by this algorithm.
+fn check_verified<K: KeyFunctions>(
+    alloc: Global,
+    keys: &K,
+    certificate: &Certificate,
+    content: &GeneralContent,
+    algorithm: &AlgorithmIdentifier,
+) -> Result<(), TrustFault>
+    ensures { IsOutcome (verified_by (K.functions keys.now) certificate.now content.now algorithm.now).gives result }
+{
+    let verified = is_verified(alloc, keys, certificate, content, algorithm)?;
+    if !verified {
         return Err(TrustFault::Refused(TrustRefusal::InvalidSignature));
     }
     Ok(())
