@@ -1,5 +1,6 @@
 -- What a certificate of the list comes to, the list comes to; and what the list comes to, the signer does.
-use Rattle.std.proofs.Common.{◌≡◌, ℕ, true, not, List, ◌∷◌, Option, None, Some, Result, Ok, Err, refl, sym, ap, subst, inl, inr}
+use Rattle.std.proofs.Common.{◌≡◌, ℕ, suc, ◌+◌, ◌<◌, ◌≤◌, Bool, true, false, not, List, ◌∷◌, length, get_or, drop, Option, None, Some, Result, Ok, Err, refl, sym, ap, ◌∙◌, subst, inl, inr, arith, drop-cons}
+use Rattle.std.proofs.lemmas.List.{drop_all}
 use Rattle.picky_asn1.specs.Bytes.{Bytes}
 use Rattle.picky_asn1_der.specs.Raw.{Raw}
 use Rattle.picky_asn1_der.specs.Splits.{raw_bytes}
@@ -10,7 +11,11 @@ use Rattle.x509_algorithms.specs.declared.algorithm_identifier.AlgorithmIdentifi
 use Rattle.x509_algorithms.specs.declared.algorithm_kinds.AlgorithmIdentifierParameters.TheVariants as kind
 use Rattle.x509_certificates.specs.declared.certificate.Certificate.{Certificate}
 use Rattle.x509_keys.specs.KeyFunctions.{KeysRecord}
-use Rattle.std.specs.Prelude.{IsTrue}
+use Rattle.std.specs.Bool.{nat_eq}
+use Rattle.std.specs.Cmp.Lexicographic.{pointwise}
+use Rattle.std.specs.Prelude.{IfOk, IsTrue, unwrap_or, if◌then◌else◌}
+use Rattle.asn1_leaves.specs.ObjectIdentifier.{oid_content}
+use Rattle.cms_signed_data.specs.declared.general_form.digest_algorithm.DigestAlgorithm.{DigestAlgorithm}
 use Rattle.decision_tables.specs.One.{IsSole}
 use Rattle.decision_tables.specs.Tables.{Table, and_then_told, ask, done}
 use Rattle.krb_constants.specs.declared.error_codes.TheConstants.{KDC_ERR_DIGEST_IN_SIGNED_DATA_NOT_ACCEPTED}
@@ -24,7 +29,9 @@ use Rattle.pkinit_validation.specs.Refusals.{IsOutcome, as_answer, code_of, requ
 use Rattle.pkinit_validation.specs.declared.refusal.TrustFault.{TrustFault}
 use Rattle.pkinit_validation.specs.declared.refusal.TrustFault.TheVariants.{Refused, Memory}
 use Rattle.pkinit_validation.specs.declared.refusal.TrustRefusal.{TrustRefusal}
-use Rattle.pkinit_validation.specs.GeneralTrust.{IsJudgedAs, IsJudgedBy, certificates_of, general_signer, rsa_named, sid_of, takes_digest, trusted_among}
+use Rattle.pkinit_validation.specs.declared.refusal.TrustRefusal.TheVariants.{InvalidSignature}
+use Rattle.pkinit_validation.specs.declared.policies.signer.TheConstants.{RSA_ENCRYPTION}
+use Rattle.pkinit_validation.specs.GeneralTrust.{IsJudgedAs, IsJudgedBy, certificates_of, general_signer, rsa_beside, rsa_named, sid_of, signature_under, takes_digest, trusted_among}
 use Rattle.pkinit_validation.specs.declared.policies.policy.GeneralPolicy.{GeneralPolicy}
 use Rattle.pkinit_validation.proofs.WidenedLemmas.{by_refuse}
 
@@ -34,16 +41,32 @@ module _ (keys : KeysRecord) (expected : ExpectedRecord) (parts : GeneralParts) 
   ComesTo certificates rest =
       (outcome : Result (Unit {0}) TrustRefusal) → (trusted_among keys expected parts rest).gives outcome → (trusted_among keys expected parts certificates).gives outcome
 
-  pub passed_over : (certificates : List Raw) (raw : Raw) (more : List Raw) → IsJudgedBy keys expected parts (raw_bytes raw) None
-      → ComesTo certificates (raw ∷ more) → ComesTo certificates more
-  passed_over certificates raw more none comes = λ outcome given. comes outcome (inr (none, given))
+  -- the list from an index on begins with the certificate at this index
+  from_index : (certificates : List Raw) (index : ℕ) (raw : Raw) → index < length certificates → get_or certificates index raw ≡ raw
+      → drop index certificates ≡ raw ∷ drop (suc index) certificates
+  from_index certificates index raw below is = drop-cons certificates index raw below ∙ ap (λ (x : Raw). x ∷ drop (suc index) certificates) is
 
-  pub found_here : (certificates : List Raw) (raw : Raw) (more : List Raw) (outcome : Result (Unit {0}) TrustRefusal)
-      → IsJudgedBy keys expected parts (raw_bytes raw) (Some outcome) → ComesTo certificates (raw ∷ more) → (trusted_among keys expected parts certificates).gives outcome
-  found_here certificates raw more outcome judged comes = comes outcome (inl (judged.0, judged.1, judged.2))
+  pub passed_at : (certificates : List Raw) (index : ℕ) (raw : Raw) → index < length certificates → get_or certificates index raw ≡ raw
+      → IsJudgedBy keys expected parts (raw_bytes raw) None → ComesTo certificates (drop index certificates) → ComesTo certificates (drop (index + 1) certificates)
+  passed_at certificates index raw below is none comes =
+      let there : ComesTo certificates (raw ∷ drop (suc index) certificates) =
+      subst (λ (rest : List Raw). ComesTo certificates rest) (from_index certificates index raw below is) comes in
+      let passed : ComesTo certificates (drop (suc index) certificates) = λ outcome given. there outcome (inr (none, given)) in
+      let next : suc index ≡ index + 1 = omega arith in
+      subst (λ (n : ℕ). ComesTo certificates (drop n certificates)) next passed
+
+  pub found_at : (certificates : List Raw) (index : ℕ) (raw : Raw) (outcome : Result (Unit {0}) TrustRefusal) → index < length certificates → get_or certificates index raw ≡ raw
+      → IsJudgedBy keys expected parts (raw_bytes raw) (Some outcome) → ComesTo certificates (drop index certificates) → (trusted_among keys expected parts certificates).gives outcome
+  found_at certificates index raw outcome below is judged comes =
+      subst (λ (rest : List Raw). ComesTo certificates rest) (from_index certificates index raw below is) comes outcome (inl (judged.0, judged.1, judged.2))
+
+  pub none_of_them : (certificates : List Raw) (index : ℕ) → length certificates ≤ index → ComesTo certificates (drop index certificates)
+      → (trusted_among keys expected parts certificates).gives (Err InvalidSignature)
+  none_of_them certificates index past comes =
+      subst (λ (rest : List Raw). ComesTo certificates rest) (drop_all index certificates past) comes (Err InvalidSignature) refl
 
   -- what a certificate that was read comes to
-  pub judged_read : (bytes : Bytes) (certificate : Certificate) (signed : Bytes) (is : IsCertificate bytes (record { certificate = certificate; signed = signed }))
+  judged_read : (bytes : Bytes) (certificate : Certificate) (signed : Bytes) (is : IsCertificate bytes (record { certificate = certificate; signed = signed }))
       → (judged : Option (Result (Unit {0}) TrustRefusal)) → IsJudgedAs keys expected parts (record { certificate = certificate; signed = signed }) judged
       → ((read : ReadRecord) → IsCertificate bytes read → read ≡ record { certificate = certificate; signed = signed })
       → IsJudgedBy keys expected parts bytes judged
@@ -51,6 +74,13 @@ module _ (keys : KeysRecord) (expected : ExpectedRecord) (parts : GeneralParts) 
       λ read named. other (subst (λ (r : ReadRecord). names (sid_of parts) r.certificate ≡ true) (one read named.is) named.named)
   judged_read bytes certificate signed is (Some outcome) judged one =
       (record { certificate = certificate; signed = signed }, record { is = is; named = judged.0 }, judged.1)
+
+  pub judged_told : {E : Type 0} (bytes : Bytes) (certificate : Certificate) (signed : Bytes) (is : IsCertificate bytes (record { certificate = certificate; signed = signed }))
+      → (told : Result (Option (Result (Unit {0}) TrustRefusal)) E) → IfOk told (IsJudgedAs keys expected parts (record { certificate = certificate; signed = signed }))
+      → ((read : ReadRecord) → IsCertificate bytes read → read ≡ record { certificate = certificate; signed = signed })
+      → IfOk told (IsJudgedBy keys expected parts bytes)
+  judged_told bytes certificate signed is (Ok judged) given one = judged_read bytes certificate signed is judged given one
+  judged_told bytes certificate signed is (Err error) given one = tt
 
 -- an outcome that was told is the table's
 pub told_outcome : (gives : Result (Unit {0}) TrustRefusal → Type 0) (outcome : Result (Unit {0}) TrustRefusal) → gives outcome
@@ -99,3 +129,12 @@ module _ (keys : KeysRecord) (policy : GeneralPolicy) (expected : ExpectedRecord
       → IsJudged (general_signer keys policy expected parts).gives (Err refusal)
   refused_general_as fault refusal is outcome =
       subst (λ (r : Refusal). IsJudged (general_signer keys policy expected parts).gives (Err r)) (sym is) (refused_general fault outcome)
+
+-- beside rsaEncryption the digest algorithm names the algorithm, and else it stays
+pub under_other : (digest : DigestAlgorithm) (algorithm : AlgorithmIdentifier) → pointwise nat_eq (oid_content algorithm.algorithm.0) RSA_ENCRYPTION ≡ false
+    → signature_under digest algorithm ≡ algorithm
+under_other digest algorithm other = ap (λ (is : Bool). if is then unwrap_or (rsa_beside digest) algorithm else algorithm) other
+
+pub under_rsa : (digest : DigestAlgorithm) (algorithm : AlgorithmIdentifier) → pointwise nat_eq (oid_content algorithm.algorithm.0) RSA_ENCRYPTION ≡ true
+    → signature_under digest algorithm ≡ unwrap_or (rsa_beside digest) algorithm
+under_rsa digest algorithm is = ap (λ (is : Bool). if is then unwrap_or (rsa_beside digest) algorithm else algorithm) is

@@ -1,5 +1,5 @@
 //! Whether the client signed its AuthPack.
-ghost use Rattle.std.specs.Prelude.{◌≡◌, IfOk};
+ghost use Rattle.std.specs.Prelude.{◌≡◌, IfOk, unwrap_or};
 ghost use Rattle.std.specs.Bool.{nat_eq};
 ghost use Rattle.std.specs.Cmp.Lexicographic.{pointwise};
 ghost use Rattle.asn1_leaves.specs.ObjectIdentifier.{oid_content};
@@ -9,7 +9,7 @@ ghost use Rattle.pkinit_validation.specs.Expected.{expected_of};
 ghost use Rattle.cms_signed_data.specs.Digests.{digest_by};
 ghost use Rattle.cms_signed_data.specs.GeneralContents.{content_of};
 ghost use Rattle.pkinit_validation.specs.Refusals.{IsOutcome, as_answer};
-ghost use Rattle.pkinit_validation.specs.GeneralTrust.{IsAlgorithm, IsJudgedAs, IsJudgedBy, by_algorithm, by_certificate, general_signed_by, general_signer, is_sha1, rsa_beside, takes_digest, trusted_among, verified_by, verifies_by, verifies_under};
+ghost use Rattle.pkinit_validation.specs.GeneralTrust.{IsAlgorithm, IsJudgedAs, IsJudgedBy, by_algorithm, by_certificate, general_signed_by, general_signer, is_sha1, rsa_beside, signature_under, takes_digest, trusted_among, verified_by, verifies_by, verifies_under};
 
 use crate::certificates::read_signed;
 use crate::policies::policy::GeneralPolicy;
@@ -72,13 +72,12 @@ pub fn check_among<K: KeyFunctions>(
 ) -> Result<(), TrustFault>
     ensures { IsOutcome (trusted_among (K.functions keys.now) (expected_of expected.now) content.now certificates.now).gives result }
 {
-    let mut rest = certificates;
-    'certificates: while let [raw, more @ ..] = rest {
+    for raw in certificates {
         let judged = judged_by(alloc, keys, expected, content, raw.as_bytes())?;
-        if let Some(outcome) = judged {
-            return told(outcome);
+        match judged {
+            Some(outcome) => return told(outcome),
+            None => {}
         }
-        rest = more;
     }
     Err(TrustFault::Refused(TrustRefusal::InvalidSignature))
 }
@@ -237,15 +236,27 @@ fn is_verified<K: KeyFunctions>(
 ) -> Result<bool, AllocError>
     ensures { IfOk result (λ is. is ≡ verifies_under (K.functions keys.now) certificate.now content.now algorithm.now) }
 {
-    if !is_rsa_encryption(algorithm) {
-        return Ok(verifies(keys, certificate, content, algorithm));
-    }
-    let Some(named) = rsa_beside(alloc, content.digest_algorithm())? else {
+    let Some(named) = named_under(alloc, content.digest_algorithm(), algorithm)? else {
         return Ok(verifies(keys, certificate, content, algorithm));
     };
     let verified = verifies(keys, certificate, content, &named);
     drop(named);
     Ok(verified)
+}
+
+// The algorithm by which a signature is judged, if it is another one than this.
+fn named_under(
+    alloc: Global,
+    digest: DigestAlgorithm,
+    algorithm: &AlgorithmIdentifier,
+) -> Result<Option<AlgorithmIdentifier>, AllocError>
+    ensures { IfOk result (λ named. unwrap_or named algorithm.now ≡ signature_under digest algorithm.now) }
+{
+    if !is_rsa_encryption(algorithm) {
+        return Ok(None);
+    }
+    let beside = rsa_beside(alloc, digest)?;
+    Ok(beside)
 }
 
 // The algorithm that rsaEncryption is beside a digest algorithm, if it is another one.
