@@ -7,3 +7,4 @@ pub mod Decided
 mod VerifiedParts
 mod AgileRequestLemmas
 mod AgileSignerLemmas
+mod AgileKeyLemmas

@@ -176,8 +176,9 @@ fn key_for(
 ) -> Result<Key, AllocError>
     ensures { IfOk result (λ key. key ≡ record { suite = client.now.suite; bytes = key_by client.now.suite kdf secret.items (asked_context client.now request.now as_req.now padata.now) }) }
 {
+    let suite = client.suite();
     let Some(kdf) = kdf else {
-        return agreed_key(alloc, client.suite(), secret);
+        return agreed_key(alloc, suite, secret);
     };
     let body = &request.req_body.0;
     let context = KdfContext {
@@ -187,5 +188,5 @@ fn key_for(
         as_req,
         pk_as_rep: padata,
     };
-    derived_key(alloc, client.suite(), kdf, secret, &context)
+    derived_key(alloc, suite, kdf, secret, &context)
 }

@@ -5,5 +5,5 @@ use Rattle.krb_realm_files.proofs.file_pkinit.judge_by.Goals as goal
 
 pub returns : goal.returns
 returns c =
-    by_means c.args.policy c.args.means.now (trust_of c.pkinit.result.anchor c.pkinit.result.certificate) c.pkinit.result.keys.now (call_of c.args.call.now) c.args.padata.now
-    (agreed_as c.judge.result) c.pkinit.ensures.trust c.pkinit.ensures.keys c.judge.ensures
+    by_means c.args.policy c.args.means.now (trust_of c.pkinit-own.result.anchor c.pkinit-own.result.certificate) c.pkinit-own.result.keys.now (call_of c.args.call.now) c.args.padata.now
+    (agreed_as c.judge.result) c.pkinit-own.ensures.trust c.pkinit-own.ensures.keys c.judge.ensures
