@@ -16,7 +16,7 @@ pub returns-in-Ok : goal.returns-in-Ok
 returns-in-Ok g c =
     let enough : AreEnoughForReply c.args.call.now.words.now = omega arith in
     granted_judged (g.C.KeyFunctions.functions c.args.keys.now) (trust_of c.args.pkinit.now.anchor c.args.pkinit.now.certificate) (g.R.KeyFunctions.functions c.args.pkinit.now.keys.now)
-    (call_of c.args.call.now) (asked_of c.args.asked.now) c.args.padata.now (record { secret = c.in-Ok.agreed.secret.items; reply = c.in-Ok.agreed.reply.items }) c.takes_secret-taken.result
+    (call_of c.args.call.now) (asked_of c.args.asked.now) c.args.padata.now (record { secret = c.in-Ok.agreed.secret.items; kdf = c.in-Ok.agreed.kdf; reply = c.in-Ok.agreed.reply.items }) c.takes_secret-taken.result
     enough c.in-Ok.ensures c.takes_secret-taken.ensures
 
 pub returns-in-Err-Krb : goal.returns-in-Err-Krb
