@@ -5,7 +5,7 @@ mod JudgedReading
 mod JudgedParts
 mod SignerLemmas
 mod SignedLemmas
+mod WidenedLemmas
 mod PolicyFieldLemmas
 mod PolicySignerLemmas
-mod WidenedLemmas
 mod NoLessLemmas

@@ -114,8 +114,8 @@ module _ (keys : KeysRecord) (expected : ExpectedRecord) (content : SignedParts)
   same_digest = λ i. pointwise nat_eq (digest_by (same.algorithm i) (same.encapsulated i).content.0) (same.digest i)
 
   -- what the digest algorithm decides
-  abbrev by_digest : Certificate → DigestAlgorithm → Bool
-  by_digest certificate digest =
+  abbrev by_hash : Certificate → DigestAlgorithm → Bool
+  by_hash certificate digest =
       if is_sha1 digest && pointwise nat_eq (oid_content (signature_under general.algorithm judged.algorithm).algorithm.0) SHA1_WITH_RSA
       then keys.verifies_sha1 certificate.tbs_certificate.subject_public_key_info (as_set (attributes_bytes general.info)) (signature_of general.info)
       else keys.verifies certificate.tbs_certificate.subject_public_key_info (signature_under general.algorithm judged.algorithm) (as_set (attributes_bytes general.info))
@@ -125,7 +125,7 @@ module _ (keys : KeysRecord) (expected : ExpectedRecord) (content : SignedParts)
       → verifies_under keys certificate general judged.algorithm
       ≡ keys.verifies certificate.tbs_certificate.subject_public_key_info judged.algorithm judged.covered judged.signature
   same_verified certificate =
-      ap (by_digest certificate) same.algorithm
+      ap (by_hash certificate) same.algorithm
       ∙ (λ i. keys.verifies certificate.tbs_certificate.subject_public_key_info (same_algorithm judged.algorithm i) (as_set (same.attributes i)) (same.signature i))
 
   -- the rows behind the issuer, the serial number and the digest
