@@ -1,6 +1,6 @@
 -- What a client with algorithm agility makes of a reply by certificate, in parts of one table: the first case that holds counts (RFC 4556,
 -- section 3.2.4; RFC 8636, section 6).
-use Rattle.std.specs.Prelude.{ℕ, Bool, not, Option, None, Some, Result, Ok, Err, Vec}
+use Rattle.std.specs.Prelude.{ℕ, Bool, false, not, Option, None, Some, Result, Ok, Err, Vec}
 use Rattle.std.specs.Bool.{nat_eq}
 use Rattle.std.specs.Cmp.Lexicographic.{pointwise}
 use Rattle.std.specs.Global.{Global}
