@@ -10,7 +10,9 @@ use Rattle.x509_algorithms.specs.AlgorithmsMade.{IsMade}
 use Rattle.x509_algorithms.specs.declared.algorithm_identifier.AlgorithmIdentifier.{AlgorithmIdentifier}
 use Rattle.x509_algorithms.specs.declared.algorithm_kinds.AlgorithmIdentifierParameters.TheVariants as kind
 use Rattle.x509_certificates.specs.declared.certificate.Certificate.{Certificate}
+use Rattle.x509_codec.specs.Covered.{as_set}
 use Rattle.x509_keys.specs.KeyFunctions.{KeysRecord}
+use Rattle.x509_keys.specs.declared.subject_public_key_info.SubjectPublicKeyInfo.{SubjectPublicKeyInfo}
 use Rattle.std.specs.Bool.{nat_eq}
 use Rattle.std.specs.Cmp.Lexicographic.{pointwise}
 use Rattle.std.specs.Prelude.{IfOk, IsTrue, unwrap_or, if◌then◌else◌}
@@ -21,7 +23,7 @@ use Rattle.decision_tables.specs.Tables.{Table, and_then_told, ask, done}
 use Rattle.krb_constants.specs.declared.error_codes.TheConstants.{KDC_ERR_DIGEST_IN_SIGNED_DATA_NOT_ACCEPTED}
 use Rattle.krb_messages.specs.Refusals.{Code, IsJudged}
 use Rattle.krb_messages.specs.declared.refusal.Refusal.{Refusal}
-use Rattle.cms_signed_data.specs.GeneralContents.{GeneralParts}
+use Rattle.cms_signed_data.specs.GeneralContents.{GeneralParts, attributes_bytes, signature_of}
 use Rattle.cms_signed_data.specs.Identifiers.{names}
 use Rattle.pkinit_validation.specs.Certificates.{IsCertificate, ReadRecord}
 use Rattle.pkinit_validation.specs.Expected.{ExpectedRecord}
@@ -31,7 +33,7 @@ use Rattle.pkinit_validation.specs.declared.refusal.TrustFault.TheVariants.{Refu
 use Rattle.pkinit_validation.specs.declared.refusal.TrustRefusal.{TrustRefusal}
 use Rattle.pkinit_validation.specs.declared.refusal.TrustRefusal.TheVariants.{InvalidSignature}
 use Rattle.pkinit_validation.specs.declared.policies.signer.TheConstants.{RSA_ENCRYPTION}
-use Rattle.pkinit_validation.specs.GeneralTrust.{IsJudgedAs, IsJudgedBy, certificates_of, general_signer, rsa_beside, rsa_named, sid_of, signature_under, takes_digest, trusted_among}
+use Rattle.pkinit_validation.specs.GeneralTrust.{IsJudgedAs, IsJudgedBy, certificates_of, general_signer, is_by_sha1, rsa_beside, rsa_named, sid_of, signature_under, takes_digest, trusted_among, verifies_by}
 use Rattle.pkinit_validation.specs.declared.policies.policy.GeneralPolicy.{GeneralPolicy}
 use Rattle.pkinit_validation.proofs.WidenedLemmas.{by_refuse}
 
@@ -138,3 +140,26 @@ under_other digest algorithm other = ap (λ (is : Bool). if is then unwrap_or (r
 pub under_rsa : (digest : DigestAlgorithm) (algorithm : AlgorithmIdentifier) → pointwise nat_eq (oid_content algorithm.algorithm.0) RSA_ENCRYPTION ≡ true
     → signature_under digest algorithm ≡ unwrap_or (rsa_beside digest) algorithm
 under_rsa digest algorithm is = ap (λ (is : Bool). if is then unwrap_or (rsa_beside digest) algorithm else algorithm) is
+
+-- by which of its functions a key verifies
+module _ (keys : KeysRecord) (certificate : Certificate) (parts : GeneralParts) (algorithm : AlgorithmIdentifier) where
+  abbrev key : SubjectPublicKeyInfo
+  key = certificate.tbs_certificate.subject_public_key_info
+
+  abbrev text : Bytes
+  text = as_set (attributes_bytes parts.info)
+
+  abbrev chosen : Bool → Bool
+  chosen is = if is then keys.verifies_sha1 key text (signature_of parts.info) else keys.verifies key algorithm text (signature_of parts.info)
+
+  pub verifies_by_sha1 : (result : Bool) (covered signature : Bytes) → covered ≡ text → signature ≡ signature_of parts.info → result ≡ keys.verifies_sha1 key covered signature
+      → is_by_sha1 parts algorithm ≡ true → result ≡ verifies_by keys certificate parts algorithm
+  verifies_by_sha1 result covered signature same_text same_signature is by =
+      let there : keys.verifies_sha1 key covered signature ≡ chosen true = λ i. keys.verifies_sha1 key (same_text i) (same_signature i) in
+      is ∙ there ∙ ap chosen (sym by)
+
+  pub verifies_by_itself : (result : Bool) (covered signature : Bytes) → covered ≡ text → signature ≡ signature_of parts.info → result ≡ keys.verifies key algorithm covered signature
+      → is_by_sha1 parts algorithm ≡ false → result ≡ verifies_by keys certificate parts algorithm
+  verifies_by_itself result covered signature same_text same_signature is by =
+      let there : keys.verifies key algorithm covered signature ≡ chosen false = λ i. keys.verifies key algorithm (same_text i) (same_signature i) in
+      is ∙ there ∙ ap chosen (sym by)

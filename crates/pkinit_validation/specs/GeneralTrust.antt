@@ -92,11 +92,15 @@ is_sha1 Sha256 = false
 is_sha1 Sha384 = false
 is_sha1 Sha512 = false
 
+-- the signature is one of RSA with SHA-1, beside the digest algorithm SHA-1
+abbrev pub is_by_sha1 : GeneralParts → AlgorithmIdentifier → Bool
+is_by_sha1 parts algorithm = is_sha1 parts.algorithm && pointwise nat_eq (oid_content algorithm.algorithm.0) SHA1_WITH_RSA
+
 -- The signature verifies by this algorithm under the certificate's key, over the signed attributes with the tag of a SET OF. RSA with SHA-1
 -- is judged beside the digest algorithm SHA-1 alone.
 abbrev pub verifies_by : KeysRecord → Certificate → GeneralParts → AlgorithmIdentifier → Bool
 verifies_by keys certificate parts algorithm =
-    if is_sha1 parts.algorithm && pointwise nat_eq (oid_content algorithm.algorithm.0) SHA1_WITH_RSA
+    if is_by_sha1 parts algorithm
     then keys.verifies_sha1 certificate.tbs_certificate.subject_public_key_info (as_set (attributes_bytes parts.info)) (signature_of parts.info)
     else keys.verifies certificate.tbs_certificate.subject_public_key_info algorithm (as_set (attributes_bytes parts.info)) (signature_of parts.info)
 

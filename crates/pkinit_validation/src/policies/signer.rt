@@ -9,7 +9,7 @@ ghost use Rattle.pkinit_validation.specs.Expected.{expected_of};
 ghost use Rattle.cms_signed_data.specs.Digests.{digest_by};
 ghost use Rattle.cms_signed_data.specs.GeneralContents.{content_of};
 ghost use Rattle.pkinit_validation.specs.Refusals.{IsOutcome, as_answer};
-ghost use Rattle.pkinit_validation.specs.GeneralTrust.{IsAlgorithm, IsJudgedAs, IsJudgedBy, by_algorithm, by_certificate, general_signed_by, general_signer, is_sha1, rsa_beside, signature_under, takes_digest, trusted_among, verified_by, verifies_by, verifies_under};
+ghost use Rattle.pkinit_validation.specs.GeneralTrust.{IsAlgorithm, IsJudgedAs, IsJudgedBy, by_algorithm, by_certificate, general_signed_by, general_signer, is_by_sha1, is_sha1, rsa_beside, signature_under, takes_digest, trusted_among, verified_by, verifies_by, verifies_under};
 
 use crate::certificates::read_signed;
 use crate::policies::policy::GeneralPolicy;
@@ -292,10 +292,19 @@ fn verifies<K: KeyFunctions>(
     ensures { result ≡ verifies_by (K.functions keys.now) certificate.now content.now algorithm.now }
 {
     let key = &certificate.tbs_certificate.subject_public_key_info;
-    if is_sha1(content.digest_algorithm()) && is_sha1_with_rsa(algorithm) {
-        return keys.verifies_sha1(key, content.covered(), content.signature());
+    let covered = content.covered();
+    let signature = content.signature();
+    if is_by_sha1(content, algorithm) {
+        return keys.verifies_sha1(key, covered, signature);
     }
-    keys.verifies(key, algorithm, content.covered(), content.signature())
+    keys.verifies(key, algorithm, covered, signature)
+}
+
+// Whether the signature is one of RSA with SHA-1, beside this digest algorithm.
+fn is_by_sha1(content: &GeneralContent, algorithm: &AlgorithmIdentifier) -> bool
+    ensures { result ≡ is_by_sha1 content.now algorithm.now }
+{
+    is_sha1(content.digest_algorithm()) && is_sha1_with_rsa(algorithm)
 }
 
 fn is_sha1(digest: DigestAlgorithm) -> bool
