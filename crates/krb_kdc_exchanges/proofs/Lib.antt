@@ -17,6 +17,8 @@ pub mod ByTicket
 pub mod TgsHasOutcome
 pub mod TgsInvolved
 mod Before
+pub mod PlainAccounts
+pub mod Chosen
 mod GrantedFurther
 mod TgsJudged
 mod GrantedSuites

@@ -10,6 +10,8 @@ pub mod Calls
 pub mod Granting
 pub mod Preauthentication
 pub mod Grants
+pub mod Allowed
+pub mod ChosenKeys
 pub mod AsTable
 pub mod TgsTable
 pub mod Before

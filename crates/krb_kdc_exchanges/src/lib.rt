@@ -18,9 +18,11 @@
 //! tables are those without one (law `as_before`).
 #![tactic(auto)]
 
+mod allowed;
 mod answer;
 pub mod as_exchange;
 mod call;
+mod chosen;
 mod encrypted_timestamp;
 mod error;
 mod granted;
@@ -42,6 +44,7 @@ mod times;
 pub use answer::{as_reply, tgs_reply};
 pub use as_exchange::judge_as;
 pub use call::Call;
+pub use chosen::{ChosenKey, chosen_key};
 pub use encrypted_timestamp::{moment_of, open_encrypted_timestamp};
 pub use granted::{Granted, GrantedTicket};
 pub use options::AskedOptions;
