@@ -4,7 +4,9 @@ use Rattle.std.specs.List.{position_from}
 use Rattle.picky_asn1.specs.Bytes.{Bytes}
 use Rattle.krb_messages.specs.Names.{is_same_name}
 use Rattle.krb_messages.specs.TicketGranting.{krbtgt_of}
-use Rattle.krb_realm_accounts.specs.Account.{AccountRecord}
+use Rattle.krb_realm_accounts.specs.Account.{AccountRecord, kept}
+use Rattle.krb_realm_accounts.specs.Accounts.{next_key, purged}
+use Rattle.krb_realm_accounts.specs.declared.attributes.Attributes.{Attributes}
 use Rattle.krb_crypto.specs.declared.suite.CipherSuite.{CipherSuite}
 use Rattle.krb_account_texts.specs.Order.{realm_among}
 use Rattle.krb_account_texts.specs.declared.edits.EditRefusal.{EditRefusal}
@@ -36,14 +38,36 @@ abbrev pub HasOneLess : List Bytes → List Line → List Line → Type 0
 HasOneLess name old new =
     (front : List Line) × (own : Line) × (back : List Line) × (is_line_of name own ≡ true) × (old ≡ front ++ own ∷ back) × (new ≡ front ++ back)
 
--- The account with its next key: the kvno is higher by one.
+-- The account with its next key, and none before it: the kvno is higher by one. Its attributes stay, but its password needn't be changed any
+-- more.
 abbrev pub next_account : CipherSuite → Bytes → Option Bytes → AccountRecord → AccountRecord
-next_account suite key salt own = record { suite = suite; key = key; kvno = own.kvno + 1; salt = salt }
+next_account suite key salt own = record (next_key suite key own) { salt = salt }
+
+-- The account with its next key, which keeps the keys before.
+abbrev pub kept_account : CipherSuite → Bytes → Option Bytes → AccountRecord → AccountRecord
+kept_account suite key salt own = record (next_account suite key salt own) { former = kept own }
 
 -- The line of an account with its next key. The name stays, and whether it is disabled.
 abbrev pub rekeyed : CipherSuite → Bytes → Option Bytes → Line → Line
 rekeyed suite key salt (line.Account own) = line.Account (record { name = own.name; account = next_account suite key salt own.account; is_disabled = own.is_disabled })
 rekeyed suite key salt other = other
+
+-- The line of an account with its next key, which keeps the keys before.
+abbrev pub rekeyed_keeping : CipherSuite → Bytes → Option Bytes → Line → Line
+rekeyed_keeping suite key salt (line.Account own) =
+    line.Account (record { name = own.name; account = kept_account suite key salt own.account; is_disabled = own.is_disabled })
+rekeyed_keeping suite key salt other = other
+
+-- The line of an account without the keys before its own.
+abbrev pub purged_line : Line → Line
+purged_line (line.Account own) = line.Account (record { name = own.name; account = purged own.account; is_disabled = own.is_disabled })
+purged_line other = other
+
+-- The line of an account with these attributes in place of its own.
+abbrev pub allowed_line : Attributes → Line → Line
+allowed_line attributes (line.Account own) =
+    line.Account (record { name = own.name; account = record own.account { attributes = attributes }; is_disabled = own.is_disabled })
+allowed_line attributes other = other
 
 -- The name is that of the ticket-granting service of this realm.
 abbrev pub is_krbtgt : Bytes → List Bytes → Bool

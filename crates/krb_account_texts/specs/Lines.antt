@@ -10,6 +10,7 @@ use Rattle.krb_realm_accounts.specs.Account.{AccountRecord}
 use Rattle.krb_realm_accounts.specs.Settings.{SettingsRecord}
 use Rattle.krb_realm_accounts.specs.declared.policy.Policy.{Policy}
 use Rattle.krb_settings.specs.Fields.{suite_name}
+use Rattle.krb_account_texts.specs.FurtherLines.{further_fields}
 use Rattle.krb_account_texts.specs.declared.line.Line.{Line}
 use Rattle.krb_account_texts.specs.declared.line.Line.TheVariants as line
 
@@ -64,10 +65,11 @@ realm_text name settings pkinit =
 abbrev pub guarded : List ℕ → List ℕ
 guarded text = if slice_index text 0 == 35 then 92 ∷ text else text
 
--- An account's fields: the name as RFC 1964 writes it (section 2.1.3), the suite, the kvno, the salt and the key.
+-- An account's fields: the name as RFC 1964 writes it (section 2.1.3), the suite, the kvno, the salt and the key, and what follows where the
+-- account has attributes or older keys.
 abbrev pub account_fields : List Bytes → AccountRecord → List ℕ
 account_fields name own =
-    guarded (name_text name) ++ (codes "\t" ++ (suite_name own.suite ++ (codes "\t" ++ (decimal own.kvno ++ (codes "\t" ++ (salt_text own.salt ++ (codes "\t" ++ encode_lower own.key)))))))
+    guarded (name_text name) ++ (codes "\t" ++ (suite_name own.suite ++ (codes "\t" ++ (decimal own.kvno ++ (codes "\t" ++ (salt_text own.salt ++ (codes "\t" ++ (encode_lower own.key ++ further_fields own))))))))
 
 -- What the line of a disabled account begins with.
 abbrev pub disabled_mark : List ℕ

@@ -7,6 +7,11 @@ use Rattle.picky_asn1.specs.Bytes.{Bytes}
 use Rattle.krb_messages.specs.NameReading.{components_in, is_ascii}
 use Rattle.krb_messages.specs.declared.name_reading.NameTextFault.{NameTextFault}
 use Rattle.krb_realm_accounts.specs.Names.{are_components, is_realm_name}
+use Rattle.krb_time.specs.declared.calendar.TheConstants.{EPOCH}
+use Rattle.krb_realm_accounts.specs.Account.{AccountKeyRecord, AccountRecord, are_falling}
+use Rattle.krb_realm_accounts.specs.declared.attributes.Attributes.{Attributes}
+use Rattle.krb_realm_accounts.specs.declared.attributes.TheConstants.{NO_ATTRIBUTES}
+use Rattle.krb_realm_accounts.specs.declared.limits.TheConstants.{FORMER_LIMIT}
 use Rattle.krb_realm_accounts.specs.Settings.{SettingsRecord}
 use Rattle.krb_realm_accounts.specs.declared.policy.Policy.{Policy}
 use Rattle.krb_realm_accounts.specs.declared.policy.TheConstants.{NO_POLICY}
@@ -14,9 +19,11 @@ use Rattle.krb_realm_accounts.specs.declared.settings.TheConstants.{LIFETIME_LIM
 use Rattle.krb_crypto.specs.declared.suite.CipherSuite.{CipherSuite}
 use Rattle.krb_crypto.specs.Suites.{cipher_key_size, cipher_suites}
 use Rattle.krb_settings.specs.Fields.{suite_name}
+use Rattle.krb_account_texts.specs.FurtherLines.{marks_of}
 use Rattle.krb_account_texts.specs.Lines.{WrittenLine, comment, realm, account, disabled_mark}
 use Rattle.krb_account_texts.specs.Steps.{◌>>=◌, each_from}
 use Rattle.krb_account_texts.specs.declared.fields.TheConstants.{NUMBER_LIMIT}
+use Rattle.krb_account_texts.specs.declared.further.TheConstants.{ALL_MARKS}
 use Rattle.krb_account_texts.specs.declared.fault.LineFault.{LineFault}
 use Rattle.krb_account_texts.specs.declared.fault.LineFault.TheVariants as fault
 use Rattle.krb_account_texts.specs.declared.fault.TextFault.{TextFault}
@@ -85,15 +92,84 @@ sized_key suite octets = if length octets == cipher_key_size suite then Ok octet
 unfoldable pub key_in : CipherSuite → List ℕ → Result Bytes LineFault
 key_in suite text = octets_told fault.Key (decode_of text) >>= sized_key suite
 
+-- The number that decimal digits write, or 0 for `-`.
+abbrev pub number_or_dash : LineFault → List ℕ → Result ℕ LineFault
+number_or_dash otherwise text = if pointwise nat_eq text (codes "-") then Ok 0 else ok_or (number_in text) otherwise
+
+-- An account's last second, from the seconds since 1970. Number 0 is none.
+abbrev pub since_epoch : ℕ → ℕ
+since_epoch seconds = if seconds == 0 then 0 else seconds + EPOCH
+
+-- The last second of an account, or 0 if it doesn't end.
+unfoldable pub ends_in : List ℕ → Result ℕ LineFault
+ends_in text = number_or_dash fault.Ends text >>= (λ seconds. Ok (since_epoch seconds))
+
+-- The greatest lifetime of an account, or 0 if it has none of its own.
+unfoldable pub lifetime_in : List ℕ → Result ℕ LineFault
+lifetime_in text = number_or_dash fault.Lifetime text
+
+-- The attributes that are marks, by their words.
+unfoldable pub marks_in : List ℕ → Result Attributes LineFault
+marks_in text = ok_or (find (λ marks. pointwise nat_eq text (marks_of marks)) ALL_MARKS) fault.Marks
+
+-- The older key of these parts: suite, kvno and key.
+abbrev pub older_of : List (List ℕ) → Result AccountKeyRecord LineFault
+older_of (suite ∷ kvno ∷ key ∷ []) = do
+  own_suite ← suite_in suite
+  own_kvno ← kvno_in kvno
+  own_key ← key_in own_suite key
+  Ok (record { suite = own_suite; key = own_key; kvno = own_kvno })
+older_of _ = Err fault.OlderKey
+
+-- The parts between colons (58).
+abbrev pub colon_parts : List ℕ → List (List ℕ)
+colon_parts = slice_split (λ octet. octet == 58)
+
+-- The older key that a field writes. Its place among the fields doesn't count.
+abbrev pub older_in : ℕ → List ℕ → Result AccountKeyRecord LineFault
+older_in place text = older_of (colon_parts text)
+
+-- Older keys of which there are no more than an account keeps, and whose kvnos fall from this one on.
+abbrev pub judged_former : ℕ → List AccountKeyRecord → Result (List AccountKeyRecord) LineFault
+judged_former kvno keys = if nat_le (length keys) FORMER_LIMIT && are_falling kvno keys then Ok keys else Err fault.OlderKey
+
+-- The older keys that fields write, each one of them.
+unfoldable pub former_in : ℕ → List (List ℕ) → Result (List AccountKeyRecord) LineFault
+former_in kvno fields = each_from older_in 1 fields >>= judged_former kvno
+
+-- What follows the key.
+pub record FurtherRecord : Type 0 where
+  pub attributes : Attributes
+  pub former : List AccountKeyRecord
+
+-- What these fields say that follow the key: there are none, or the last second, the greatest lifetime, the marks and the older keys.
+abbrev pub marked_in : ℕ → List ℕ → List ℕ → List ℕ → List (List ℕ) → Result FurtherRecord LineFault
+marked_in kvno ends lifetime marks keys = do
+  own_ends ← ends_in ends
+  own_lifetime ← lifetime_in lifetime
+  own_marks ← marks_in marks
+  own_former ← former_in kvno keys
+  Ok (record { attributes = record own_marks { ends = own_ends; lifetime = own_lifetime }; former = own_former })
+
+abbrev pub further_in : ℕ → List (List ℕ) → Result FurtherRecord LineFault
+further_in kvno [] = Ok (record { attributes = NO_ATTRIBUTES; former = [] })
+further_in kvno (ends ∷ lifetime ∷ marks ∷ keys) = marked_in kvno ends lifetime marks keys
+further_in kvno _ = Err fault.Fields
+
+-- The account with what follows its key.
+abbrev pub with_further : CipherSuite → Bytes → ℕ → Option Bytes → FurtherRecord → AccountRecord
+with_further suite key kvno salt further = record { suite = suite; key = key; kvno = kvno; salt = salt; former = further.former; attributes = further.attributes }
+
 -- The account's line of these fields, disabled or not, or the first fault in their order.
-unfoldable pub account_in : Bool → List ℕ → List ℕ → List ℕ → List ℕ → List ℕ → Result WrittenLine LineFault
-account_in is_disabled name suite kvno salt key = do
+unfoldable pub account_in : Bool → List ℕ → List ℕ → List ℕ → List ℕ → List ℕ → List (List ℕ) → Result WrittenLine LineFault
+account_in is_disabled name suite kvno salt key further = do
   own_name ← name_in name
   own_suite ← suite_in suite
   own_kvno ← kvno_in kvno
   own_salt ← salt_in salt
   own_key ← key_in own_suite key
-  Ok (account own_name (record { suite = own_suite; key = own_key; kvno = own_kvno; salt = own_salt }) is_disabled)
+  own_further ← further_in own_kvno further
+  Ok (account own_name (with_further own_suite own_key own_kvno own_salt own_further) is_disabled)
 
 -- No character is below 32 (space).
 abbrev pub is_printed : Bytes → Bool
@@ -227,17 +303,18 @@ realm_by name skew lifetime digits words =
 abbrev pub realm_with : List ℕ → List ℕ → List ℕ → List ℕ → List ℕ → Result WrittenLine LineFault
 realm_with name skew lifetime words digits = words_in words >>= realm_by name skew lifetime digits
 
--- The line of these fields: of four, the first of which is the word `realm`, of these with two further ones, or of five.
+-- The line of these fields: of four, the first of which is the word `realm`, of these with two further ones, or of an account's five and what
+-- follows them.
 abbrev pub line_of : List (List ℕ) → Result WrittenLine LineFault
 line_of (word ∷ name ∷ skew ∷ lifetime ∷ []) = if pointwise nat_eq word (codes "realm") then realm_in name skew lifetime NO_POLICY None else Err fault.Fields
 line_of (word ∷ name ∷ skew ∷ lifetime ∷ words ∷ digits ∷ []) =
     if pointwise nat_eq word (codes "realm") then realm_with name skew lifetime words digits else Err fault.Fields
-line_of (name ∷ suite ∷ kvno ∷ salt ∷ key ∷ []) = account_in false name suite kvno salt key
+line_of (name ∷ suite ∷ kvno ∷ salt ∷ key ∷ further) = account_in false name suite kvno salt key further
 line_of _ = Err fault.Fields
 
 -- The line of a disabled account, of these fields.
 abbrev pub disabled_of : List (List ℕ) → Result WrittenLine LineFault
-disabled_of (name ∷ suite ∷ kvno ∷ salt ∷ key ∷ []) = account_in true name suite kvno salt key
+disabled_of (name ∷ suite ∷ kvno ∷ salt ∷ key ∷ further) = account_in true name suite kvno salt key further
 disabled_of _ = Err fault.DisabledFields
 
 -- The text begins with the mark of a disabled account: `#disabled` and a tab.

@@ -2,16 +2,16 @@
 ghost use Rattle.std.specs.Prelude.{◌≡◌, ◌<◌, ◌↔◌, ◌⊎◌, true, false, length, if◌then◌else◌, IfErr, IfOk, IfSome, Some, IsSome, OnOk, OnErr, None, Ok, Err};
 ghost use Rattle.std.specs.List.{insert};
 ghost use Rattle.std.specs.Option.{option_map};
-ghost use Rattle.krb_account_texts.specs.Edits.{HasCertified, HasChanged, HasOneLess, HasOneMore, certified, is_krbtgt, is_line_of, is_name_spent, is_realm, is_service_of, is_spent, leaving, marked, place_of, realm_place, rekeyed, staying};
+ghost use Rattle.krb_account_texts.specs.Edits.{HasCertified, HasChanged, HasOneLess, HasOneMore, certified, is_krbtgt, is_line_of, is_name_spent, is_realm, is_service_of, is_spent, allowed_line, leaving, marked, place_of, purged_line, realm_place, rekeyed, rekeyed_keeping, staying};
 ghost use Rattle.krb_account_texts.specs.Order.{place_for};
 
 use crate::line::{AccountLine, Line, RealmLine};
 use crate::order::{place_for, realm_among};
 use krb_crypto::Key;
 use krb_messages::{is_same_name, krbtgt};
-use krb_realm_accounts::Account;
+use krb_realm_accounts::{Account, Attributes, RealmRefusal};
 use picky_asn1::wrapper::{GeneralStringAsn1, OctetStringAsn1};
-use std::alloc::{AllocError, AllocFailed};
+use std::alloc::{AllocError, AllocFailed, Global};
 use thiserror::Error;
 
 /// Why the line of an account was not changed. A refused call changes nothing.
@@ -124,8 +124,105 @@ fn rekey(line: &mut Line, key: Key, salt: Option<OctetStringAsn1>) -> Result<(),
     if kvno == u32::MAX {
         return Err(EditRefusal::NumberSpent);
     }
-    own.account = Account::new(key, kvno + 1, salt);
+    let attributes = own.account.attributes().rekeyed();
+    own.account = Account::new(key, kvno + 1, salt).with_attributes(attributes);
     Ok(())
+}
+
+/// Gives the account of a name its next key, as [`change_key`] does, and keeps the keys before it. All other lines stay.
+///
+/// It is refused as `Unknown` if and only if the name has no account, and as `NumberSpent` if and only if its kvno is the greatest.
+pub fn keep_key(
+    alloc: Global,
+    lines: &mut Vec<Line>,
+    name: &[GeneralStringAsn1],
+    key: Key,
+    salt: Option<OctetStringAsn1>,
+) -> Result<(), EditRefusal>
+    ensures ok { OnOk result (HasChanged name.now (rekeyed_keeping key.suite key.bytes salt) lines.old.items lines.new.items) }
+    ensures unknown { (result ≡ Err EditRefusal.Unknown) ↔ (place_of name.now lines.old.items ≡ None) }
+    ensures spent { (result ≡ Err EditRefusal.NumberSpent) ↔ (is_name_spent name.now lines.old.items ≡ true) }
+    ensures err { OnErr result (lines.new.items ≡ lines.old.items) }
+{
+    let Some(place) = place_of(lines, name) else {
+        return Err(EditRefusal::Unknown);
+    };
+    rekey_keeping(alloc, &mut lines[place], key, salt)
+}
+
+// Gives the account of a line its next key, and keeps the keys before it.
+fn rekey_keeping(
+    alloc: Global,
+    line: &mut Line,
+    key: Key,
+    salt: Option<OctetStringAsn1>,
+) -> Result<(), EditRefusal>
+    ensures ok { OnOk result (line.new ≡ rekeyed_keeping key.suite key.bytes salt line.old) }
+    ensures spent { (result ≡ Err EditRefusal.NumberSpent) ↔ (is_spent line.old ≡ true) }
+    ensures refusal { IfErr result (λ e. (e ≡ EditRefusal.NumberSpent) ⊎ (e ≡ EditRefusal.Memory)) }
+    ensures err { OnErr result (line.new ≡ line.old) }
+{
+    let Line::Account(own) = line else {
+        return Ok(());
+    };
+    match own.account.keeping(alloc, key, salt) {
+        Ok(next) => {
+            own.account = next;
+            Ok(())
+        }
+        Err(RealmRefusal::NumberSpent) => Err(EditRefusal::NumberSpent),
+        Err(_) => Err(EditRefusal::Memory),
+    }
+}
+
+/// Takes the keys before its own from the account of a name. All other lines stay. It is refused as `Unknown` if and only if the name has
+/// no account.
+pub fn purge(lines: &mut Vec<Line>, name: &[GeneralStringAsn1]) -> Result<(), EditRefusal>
+    ensures ok { OnOk result (HasChanged name.now purged_line lines.old.items lines.new.items) }
+    ensures refusal { result ≡ staying name.now lines.old.items }
+    ensures err { OnErr result (lines.new.items ≡ lines.old.items) }
+{
+    let Some(place) = place_of(lines, name) else {
+        return Err(EditRefusal::Unknown);
+    };
+    purge_line(&mut lines[place]);
+    Ok(())
+}
+
+fn purge_line(line: &mut Line)
+    ensures { line.new ≡ purged_line line.old }
+{
+    let Line::Account(own) = line else {
+        return;
+    };
+    own.account.purge();
+}
+
+/// Gives the account of a name these attributes in place of its own, but never that of the realm's own ticket-granting service. All other
+/// lines stay.
+///
+/// It is refused, in this order: `Unknown`, `KeptAccount`.
+pub fn allow(
+    lines: &mut Vec<Line>,
+    name: &[GeneralStringAsn1],
+    attributes: Attributes,
+) -> Result<(), EditRefusal>
+    ensures ok { OnOk result (HasChanged name.now (allowed_line attributes) lines.old.items lines.new.items) }
+    ensures refusal { result ≡ leaving name.now lines.old.items }
+    ensures err { OnErr result (lines.new.items ≡ lines.old.items) }
+{
+    let place = leaving(lines, name)?;
+    allow_line(&mut lines[place], attributes);
+    Ok(())
+}
+
+fn allow_line(line: &mut Line, attributes: Attributes)
+    ensures { line.new ≡ allowed_line attributes line.old }
+{
+    let Line::Account(own) = line else {
+        return;
+    };
+    own.account.set_attributes(attributes);
 }
 
 /// Takes the line of the account of a name away, but never that of the realm's own ticket-granting service. All other lines stay.

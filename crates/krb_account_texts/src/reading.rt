@@ -12,6 +12,7 @@ use crate::fields::{
     kvno_of, name_of, pkinit_of, read_key, realm_name_of_text, salt_of, seconds_of, settings_of,
     suite_of,
 };
+use crate::further::further_of;
 use crate::line::{AccountLine, Line, RealmLine, principal_name};
 use crate::words::{Words, words_of};
 use krb_messages::data_types::PrincipalName;
@@ -118,7 +119,16 @@ fn disabled_of(alloc: Global, fields: &[&str]) -> Result<Line, LineFault>
     ensures { IsAside LineFault.Memory written (disabled_of (map (λ field. field.now) fields.now)) result }
 {
     match fields {
-        [name, suite, kvno, salt, key] => account_of(alloc, true, name, suite, kvno, salt, key),
+        [name, suite, kvno, salt, key, further @ ..] => {
+            let start = AccountStart {
+                name,
+                suite,
+                kvno,
+                salt,
+                key,
+            };
+            account_of(alloc, true, start, further)
+        }
         _ => Err(LineFault::DisabledFields),
     }
 }
@@ -156,9 +166,28 @@ fn line_of(alloc: Global, fields: &[&str]) -> Result<Line, LineFault>
             };
             realm_with(alloc, start, Further { words, digits })
         }
-        [name, suite, kvno, salt, key] => account_of(alloc, false, name, suite, kvno, salt, key),
+        [name, suite, kvno, salt, key, further @ ..] => {
+            let start = AccountStart {
+                name,
+                suite,
+                kvno,
+                salt,
+                key,
+            };
+            account_of(alloc, false, start, further)
+        }
         _ => Err(LineFault::Fields),
     }
+}
+
+// The first five fields of an account's line.
+#[derive(Clone, Copy)]
+struct AccountStart<'a> {
+    name: &'a str,
+    suite: &'a str,
+    kvno: &'a str,
+    salt: &'a str,
+    key: &'a str,
 }
 
 // The first four fields of a realm's line.
@@ -243,20 +272,19 @@ fn realm_of(
 fn account_of(
     alloc: Global,
     is_disabled: bool,
-    name: &str,
-    suite: &str,
-    kvno: &str,
-    salt: &str,
-    key: &str,
+    start: AccountStart<'_>,
+    further: &[&str],
 ) -> Result<Line, LineFault>
-    ensures { IsAside LineFault.Memory written (account_in is_disabled name.now suite.now kvno.now salt.now key.now) result }
+    ensures { IsAside LineFault.Memory written
+        (account_in is_disabled start.entry.name.now start.entry.suite.now start.entry.kvno.now start.entry.salt.now start.entry.key.now (map (λ field. field.now) further.now)) result }
 {
-    let name = read_name(alloc, name)?;
-    let suite = suite_of(suite)?;
-    let kvno = kvno_of(kvno)?;
-    let salt = salt_of(alloc, salt)?;
-    let key = read_key(alloc, suite, key)?;
-    let account = Account::new(key, kvno, salt);
+    let name = read_name(alloc, start.name)?;
+    let suite = suite_of(start.suite)?;
+    let kvno = kvno_of(start.kvno)?;
+    let salt = salt_of(alloc, start.salt)?;
+    let key = read_key(alloc, suite, start.key)?;
+    let further = further_of(alloc, kvno, further)?;
+    let account = Account::of_keys(key, kvno, salt, further.former, further.attributes);
     Ok(Line::Account(AccountLine {
         name,
         account,

@@ -4,6 +4,7 @@ ghost use Rattle.std.specs.Option.{option_map};
 ghost use Rattle.krb_messages.specs.NameText.{name_text};
 ghost use Rattle.krb_account_texts.specs.Lines.{account_fields, account_text, before, further_by, further_text, guarded, line_text, realm_text, renewable_word, salt_text, text_of, words_text, written};
 
+use crate::further::further_fields;
 use crate::line::{AccountLine, Line, RealmLine};
 use crate::reading::is_comment;
 use krb_messages::data_types::PrincipalName;
@@ -138,7 +139,8 @@ fn account_fields(alloc: Global, line: &AccountLine) -> Result<String, AllocErro
     let kvno = line.account.kvno();
     let salt = salt_text(alloc, line.account.salt())?;
     let key = hex::encode(alloc, line.account.key().as_bytes())?;
-    format!(in alloc; "{name}\t{suite}\t{kvno}\t{salt}\t{key}")
+    let further = further_fields(alloc, &line.account)?;
+    format!(in alloc; "{name}\t{suite}\t{kvno}\t{salt}\t{key}{further}")
 }
 
 // The text of a name where a line begins.
