@@ -72,7 +72,7 @@ for _ in range(60):
 
 KEY = "00" * 16
 ONE = "a\taes128-cts-hmac-sha1-96\t1\t-\t" + KEY + "\n"
-FIELDS = "expected name, suite, kvno, salt and key, or realm, name, skew and lifetime, and perhaps words and octets or -, with a tab between each two"
+FIELDS = "expected name, suite, kvno, salt and key, and perhaps last second, lifetime, marks and older keys, or realm, name, skew and lifetime, and perhaps words and octets or -, with a tab between each two"
 NAME = "name: expected 1 to 16 components of 1 to 255 ASCII characters, with / between each two"
 SUITE = "suite: expected one of " + ", ".join(SUITES)
 KVNO = "kvno: expected a whole number from 1 to 4294967295"
@@ -108,7 +108,7 @@ for text, fault in [
     (HEAD + ONE.replace("\t1\t", "\t1 \t"), "2: " + KVNO), (HEAD + ONE.replace("\t1\t", "\t99999999999999999999999\t"), "2: " + KVNO),
     (HEAD + ONE.replace("\t-\t", "\t0\t"), "2: " + SALT), (HEAD + ONE.replace("\t-\t", "\t--\t"), "2: " + SALT),
     (HEAD + ONE.replace("\t-\t", "\t80\t"), "2: " + SALT_OCTET), (HEAD + ONE.replace("\t-\t", "\t7f00ff\t"), "2: " + SALT_OCTET),
-    (HEAD + "#disabled\t\n", "2: " + DISABLED), (HEAD + "#disabled\t" + ONE.replace("\n", "\t\n"), "2: " + DISABLED),
+    (HEAD + "#disabled\t\n", "2: " + DISABLED), (HEAD + "#disabled\t" + ONE.replace("\n", "\t\n"), "2: " + FIELDS),
     (HEAD + "#disabled\trealm\tB\t300\t36000\n", "2: " + DISABLED), (HEAD + "#disabled\t" + ONE.replace("\t1\t", "\t0\t"), "2: " + KVNO),
     (HEAD + "#disabled\t" + ONE + ONE, "3: " + ORDER), (HEAD + ONE.replace("a\t", "b\t", 1) + "#disabled\t" + ONE, "3: " + ORDER),
     ("#disabled\t" + ONE + HEAD, "1: " + NO_REALM),
@@ -121,7 +121,7 @@ for text, fault in [
     (HEAD.replace("300", "x"), "1: " + SECONDS),
     (HEAD.replace("\n", "\tpkinit\t\n"), "1: " + PKINIT), (HEAD.replace("\n", "\tpkinit\t0\n"), "1: " + PKINIT), (HEAD.replace("\n", "\tpkinit\t0g\n"), "1: " + PKINIT),
     (HEAD.replace("\n", "\tpkinit\t-\n"), "1: " + PKINIT), (HEAD.replace("\n", "\tpkinit\n"), "1: " + NAME_OR_SUITE), (HEAD.replace("\n", "\tPKINIT\t00\n"), "1: " + WORD),
-    (HEAD.replace("\n", "\tpkinit\t00\t\n"), "1: " + FIELDS), (HEAD.replace("realm", "Realm").replace("\n", "\tpkinit\t00\n"), "1: " + FIELDS),
+    (HEAD.replace("\n", "\tpkinit\t00\t\n"), "1: " + NAME_OR_SUITE), (HEAD.replace("realm", "Realm").replace("\n", "\tpkinit\t00\n"), "1: " + FIELDS),
     (HEAD.replace("300", "86401").replace("\n", "\tpkinit\t0g\n"), "1: " + SECONDS),
 ]:
     row("read", fold(text), fault)
@@ -179,7 +179,7 @@ row("certify", fold(BOTH + ONE), "-", fold(LIMITED + ONE))
 row("remove", fold(LIMITED + ONE), "a", fold(LIMITED))
 for further, fault in [
     ("limits-des3\t00", NO_PKINIT), ("limits-des3\t", NO_PKINIT), ("limits-des3", NAME_OR_SUITE), ("limits-des3,pkinit\t-", PKINIT), ("pkinit,limits-des3\t00", WORD),
-    ("limits-des3\t-\tpkinit\t00", FIELDS), ("limits\t-", WORD),
+    ("limits-des3\t-\tpkinit\t00", NAME_OR_SUITE), ("limits\t-", WORD),
 ]:
     row("read", fold(HEAD.replace("\n", f"\t{further}\n")), "1: " + fault)
 
@@ -223,6 +223,56 @@ for words in sorted(set(tried)):
         text = HEAD.replace("\n", f"\t{words}\t{pkinit}\n") + ONE
         fault = fault_of(words, pkinit)
         row("read", fold(text), "1: " + fault if fault else fold(text.replace("\t0F\n", "\t0f\n")))
+
+# Attributes and older keys: the last second, counted from 1970, the greatest lifetime, the marks, and each older key.
+ENDS = "last second: expected seconds since 1970, from 0 to 4294967295, or - for none"
+LASTS = "lifetime: expected seconds, from 0 to 4294967295, or - for none"
+MARK_WORDS = "marks: expected off, must-change and no-service in this order, with a comma between each two, or - for none"
+OLDER = "older key: expected suite, kvno and key with a colon between each two, kvnos that fall, and 15 older keys at most"
+BEFORE = "aes256-cts-hmac-sha1-96:{}:" + "22" * 32
+
+def further(account, *fields):
+    return account.replace("\n", "".join("\t" + field for field in fields) + "\n")
+
+def older(*kvnos):
+    return [BEFORE.format(kvno) for kvno in kvnos]
+
+TWENTIETH = ONE.replace("\t1\t", "\t20\t")
+for fields in [
+    ("1893456000", "-", "-"), ("-", "36000", "-"), ("4294967295", "4294967295", "off,must-change,no-service"), ("1", "1", "off"),
+    ("-", "-", "must-change"), ("-", "-", "off,must-change"), ("-", "-", "no-service"), ("-", "-", "off,no-service"), ("-", "-", "must-change,no-service"),
+    ("-", "-", "-", *older(19)), ("-", "-", "-", *older(19, 3, 1)), ("2", "3", "off", *older(*range(15, 0, -1))),
+]:
+    for text in HEAD + further(TWENTIETH, *fields), HEAD + "#disabled\t" + further(TWENTIETH, *fields):
+        row("read", fold(text), fold(text))
+row("read", fold(HEAD + further(ONE, "-", "-", "-")), fold(HEAD + ONE))
+row("read", fold(HEAD + further(ONE, "0", "0", "-")), fold(HEAD + ONE))
+for fields, fault in [
+    (("-", "-"), FIELDS), (("x", "-", "-"), ENDS), (("4294967296", "-", "-"), ENDS), (("", "-", "-"), ENDS), (("-", "x", "-"), LASTS),
+    (("-", "4294967296", "-"), LASTS), (("-", "-", "OFF"), MARK_WORDS), (("-", "-", "must-change,off"), MARK_WORDS), (("-", "-", "off,"), MARK_WORDS), (("-", "-", ""), MARK_WORDS),
+    (("-", "-", "-", ""), OLDER), (("-", "-", "-", *older(20)), OLDER), (("-", "-", "-", *older(3, 3)), OLDER), (("-", "-", "-", *older(3, 4)), OLDER),
+    (("-", "-", "-", *older(*range(16, 0, -1))), OLDER), (("-", "-", "-", *older(0)), KVNO), (("-", "-", "-", BEFORE.format(1)[2:]), SUITE),
+    (("-", "-", "-", BEFORE.format(1)[2:] + "22"), SUITE), (("-", "-", "-", BEFORE.format(1) + "22"), KEYS), (("-", "-", "-", BEFORE.format(1) + ":"), OLDER),
+]:
+    row("read", fold(HEAD + further(TWENTIETH, *fields)), "2: " + fault)
+
+# Changes of keys that keep the keys before, or don't.
+SUITE_OF_ONE, NEXT = "aes128-cts-hmac-sha1-96", "11" * 16
+OWN = SUITE_OF_ONE + ":20:" + KEY
+NEXT_ONE = ONE.replace("\t1\t", "\t21\t").replace(KEY, NEXT)
+row("keep", fold(HEAD + TWENTIETH), "a", SUITE_OF_ONE, NEXT, fold(HEAD + further(NEXT_ONE, "-", "-", "-", OWN)))
+row("keep", fold(HEAD + further(TWENTIETH, "-", "-", "-", *older(*range(15, 0, -1)))), "a", SUITE_OF_ONE, NEXT,
+    fold(HEAD + further(NEXT_ONE, "-", "-", "-", OWN, *older(*range(15, 1, -1)))))
+row("keep", fold(HEAD + further(TWENTIETH, "5", "6", "off,must-change")), "a", SUITE_OF_ONE, NEXT, fold(HEAD + further(NEXT_ONE, "5", "6", "off", OWN)))
+row("keep", fold(HEAD + TWENTIETH), "b", SUITE_OF_ONE, NEXT, "no such account")
+row("keep", fold(HEAD + ONE.replace("\t1\t", "\t4294967295\t")), "a", SUITE_OF_ONE, NEXT, "kvno 4294967295 is the greatest: expected a new name")
+row("key", fold(HEAD + further(TWENTIETH, "5", "6", "must-change,no-service", *older(19, 1))), "a", SUITE_OF_ONE, NEXT, fold(HEAD + further(NEXT_ONE, "5", "6", "no-service")))
+row("purge", fold(HEAD + further(TWENTIETH, "-", "-", "-", *older(19, 1))), "a", fold(HEAD + TWENTIETH))
+row("purge", fold(HEAD + further(TWENTIETH, "5", "-", "-", *older(19, 1))), "a", fold(HEAD + further(TWENTIETH, "5", "-", "-")))
+row("purge", fold(HEAD + TWENTIETH), "b", "no such account")
+row("off", fold(HEAD + further(TWENTIETH, "5", "6", "no-service", *older(19))), "a", fold(HEAD + further(TWENTIETH, "-", "-", "off", *older(19))))
+row("off", fold(HEAD + ONE + KRBTGT), "krbtgt/EXAMPLE.COM", KEPT)
+row("off", fold(HEAD + ONE), "b", "no such account")
 
 with open("account_texts.txt", "w", encoding="utf-8") as out:
     out.write("".join(row + "\n" for row in rows))

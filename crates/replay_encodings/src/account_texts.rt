@@ -6,12 +6,12 @@
 
 use anyhow::bail;
 use krb_account_texts::{
-    AccountLine, EditRefusal, Line, LineFault, Pattern, TextFault, add, can_be_typed, certify,
-    change_key, check_order, disable, enable, read_key, read_lines, read_name, remove, suite_named,
-    text_of,
+    AccountLine, EditRefusal, Line, LineFault, Pattern, TextFault, add, allow, can_be_typed,
+    certify, change_key, check_order, disable, enable, keep_key, purge, read_key, read_lines,
+    read_name, remove, suite_named, text_of,
 };
 use krb_crypto::Key;
-use krb_realm_accounts::Account;
+use krb_realm_accounts::{Account, Attributes, NO_ATTRIBUTES};
 use picky_asn1::wrapper::OctetStringAsn1;
 use std::alloc::Global;
 use test_support::rows::replay;
@@ -24,6 +24,15 @@ pub(crate) fn replay_account_texts(rt: &HostRuntime) -> anyhow::Result<()> {
 
 #[derive(Clone, Copy)]
 struct AccountTexts;
+
+/// The attributes that `off` sets.
+const OFF: Attributes = Attributes {
+    ends: 0,
+    is_off: true,
+    must_change: false,
+    lifetime: 0,
+    is_no_service: false,
+};
 
 /// What is done with a text, and its arguments, which are empty where there are none. The name of `certify` is what logins by certificate are
 /// answered by.
@@ -66,7 +75,7 @@ fn is_as_told(alloc: Global, what: &str, row: &mut Row<'_>) -> anyhow::Result<bo
 /// Reads the arguments of what is done with a text.
 fn edit_of<'a>(what: &'a str, row: &mut Row<'a>) -> Edit<'a> {
     let has_name = what != "read";
-    let has_key = what == "key" || what == "add";
+    let has_key = what == "key" || what == "keep" || what == "add";
     Edit {
         what,
         name: if has_name { row.word() } else { "" },
@@ -121,11 +130,16 @@ fn edited(
         "remove" => return Ok(remove(lines, components).err()),
         "disable" => return Ok(disable(lines, components).err()),
         "enable" => return Ok(enable(lines, components).err()),
+        "purge" => return Ok(purge(lines, components).err()),
+        "off" => return Ok(allow(lines, components, OFF).err()),
         _ => {}
     }
     let key = key_of(alloc, edit)?;
     if edit.what == "key" {
         return Ok(change_key(lines, components, key, None).err());
+    }
+    if edit.what == "keep" {
+        return Ok(keep_key(alloc, lines, components, key, None).err());
     }
     let line = AccountLine {
         name,
