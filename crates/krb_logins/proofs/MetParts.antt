@@ -24,8 +24,14 @@ never is = absurd (cc (is))
 module _ (client : ClientRecord) (means : MeansRecord) (realm : RealmRecord) (rows : PkinitRows) (service : ServiceRecord) (before : RememberedRecord) (login : LoginRecord)
     (met : IsMet client means realm rows service before login) where
   abbrev pub one_realm : AreOfOneRealm client realm
-  one_realm = record { realm_name = met.parties.realm; name = met.parties.name; same = met.honest.named.client; known = met.honest.client;
-    free = met.unlimited.client met.honest.client.account met.honest.client.found; keyed = met.keyed }
+  one_realm = record {
+    realm_name = met.parties.realm;
+    name = met.parties.name;
+    same = met.honest.named.client;
+    known = met.honest.client;
+    free = met.unlimited.client met.honest.client.account met.honest.client.found;
+    keyed = met.keyed;
+  }
 
   abbrev pub as_honest : IsAsHonest client plain_options means realm rows met.honest.client.account login
   as_honest = record {
