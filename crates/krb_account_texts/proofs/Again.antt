@@ -26,7 +26,7 @@ use Rattle.krb_account_texts.specs.Writable.{ArePkinitBytes, IsAccount, IsCommen
 use Rattle.krb_account_texts.specs.declared.fault.LineFault.{LineFault}
 use Rattle.krb_account_texts.specs.declared.words.Words.{Words}
 use Rattle.krb_account_texts.proofs.Feeds.{fed-part, fed-plain}
-use Rattle.krb_account_texts.proofs.Fields.{key-again, kvno-again, salt-again, suite-again}
+use Rattle.krb_account_texts.proofs.FieldsAgain.{key-again, kvno-again, salt-again, suite-again}
 use Rattle.krb_account_texts.proofs.FurtherAgain.{further-again, further-cells, further-fed-by, further_parts, parts_where}
 use Rattle.krb_account_texts.proofs.Numbers.{decimal-read}
 use Rattle.krb_account_texts.proofs.Plain.{all-both, all-cons, is_all_plain, is_plain, plain-decimal, plain-hex, plain-name, plain-suite}

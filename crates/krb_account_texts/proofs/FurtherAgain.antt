@@ -23,7 +23,7 @@ use Rattle.krb_account_texts.specs.Writable.{IsAccount, IsEnd}
 use Rattle.krb_account_texts.specs.declared.fault.LineFault.{LineFault}
 use Rattle.krb_account_texts.specs.declared.fault.LineFault.TheVariants as fault
 use Rattle.krb_account_texts.proofs.Feeds.{fed-part, fed-plain}
-use Rattle.krb_account_texts.proofs.Fields.{key-again, kvno-again, suite-again}
+use Rattle.krb_account_texts.proofs.FieldsAgain.{key-again, kvno-again, suite-again}
 use Rattle.krb_account_texts.proofs.Numbers.{decimal-read}
 use Rattle.krb_account_texts.proofs.Plain.{all-both, all-cons, all-decimal, all-hex, is_all_plain, is_plain, plain-decimal, plain-hex, plain-suite, split-last, split-part}
 use Rattle.krb_account_texts.proofs.Tabs.{tab-last, tab-part}

@@ -2,7 +2,7 @@ pub mod Plain
 pub mod Numbers
 mod Tabs
 mod Feeds
-mod Fields
+mod FieldsAgain
 mod FurtherAgain
 mod FieldsRead
 mod FurtherRead

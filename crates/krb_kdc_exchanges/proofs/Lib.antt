@@ -18,7 +18,7 @@ pub mod TgsHasOutcome
 pub mod TgsInvolved
 mod Before
 pub mod PlainAccounts
-pub mod Chosen
+pub mod KeyChoice
 mod GrantedFurther
 mod TgsJudged
 mod GrantedSuites

@@ -59,7 +59,7 @@ use Rattle.krb_kdc_exchanges.specs.Requests.{account_of, client_of, is_postdated
 use Rattle.krb_messages.specs.Bodies.{body_bytes}
 use Rattle.krb_messages.specs.TicketGranting.{krbtgt_of}
 use Rattle.krb_kdc_exchanges.specs.declared.span.Span.{Span}
-use Rattle.krb_kdc_exchanges.proofs.Chosen.{newest_fits}
+use Rattle.krb_kdc_exchanges.proofs.KeyChoice.{newest_fits}
 use Rattle.krb_kdc_exchanges.proofs.PlainAccounts.{further_plain, limited_plain}
 use Rattle.krb_kdc_exchanges.specs.TgsTable as table
 use Rattle.krb_kdc_exchanges.specs.TgsTable.{carried, client_and_times, covered, further, granting_by, is_known_checksum, is_of_body, of_carried, of_authenticated, of_ticket, authenticated_near, tgs_granted, tgs_table, ticket_granting, to_us}

@@ -3,7 +3,7 @@ use Rattle.std.specs.Option.{option_copied}
 use Rattle.krb_crypto.specs.Keys.{KeyRecord}
 use Rattle.krb_realm_accounts.specs.Account.{AccountKeyRecord}
 use Rattle.krb_ap_requests.specs.ApTable.{kvno_fits}
-use Rattle.krb_kdc_exchanges.proofs.Chosen.{newest_fits, none_fits, older_fits}
+use Rattle.krb_kdc_exchanges.proofs.KeyChoice.{newest_fits, none_fits, older_fits}
 use Rattle.krb_kdc_exchanges.proofs.chosen.chosen_key.Goals as goal
 
 key_record : AccountKeyRecord → KeyRecord
