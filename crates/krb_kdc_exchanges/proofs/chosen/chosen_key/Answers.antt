@@ -6,7 +6,7 @@ use Rattle.krb_ap_requests.specs.ApTable.{kvno_fits}
 use Rattle.krb_kdc_exchanges.proofs.KeyChoice.{newest_fits, none_fits, older_fits}
 use Rattle.krb_kdc_exchanges.proofs.chosen.chosen_key.Goals as goal
 
-key_record : AccountKeyRecord → KeyRecord
+abbrev key_record : AccountKeyRecord → KeyRecord
 key_record own = record { suite = own.suite; bytes = own.key }
 
 pub returns-then-kvno_fits-clause-key : goal.returns-then-kvno_fits-clause-key
@@ -23,13 +23,13 @@ pub returns-in-Some-clause-key : goal.returns-in-Some-clause-key
 returns-in-Some-clause-key c =
     let other : kvno_fits c.args.account.now.kvno c.args.encrypted.now ≡ false = sym (rw c.kvno.ensures.value at c.kvno_fits.ensures) ∙ c.if-kvno_fits.false in
     let found = sym (rw c.former.ensures.value at c.former_of.ensures) ∙ ap (λ o. option_copied o) c.in-Some.is in
-    c.key-2.ensures ∙ ap key_record (sym (older_fits c.args.encrypted.now c.args.account.now other c.in-Some.key.now found))
+    c.key-in-Some.ensures ∙ ap key_record (sym (older_fits c.args.encrypted.now c.args.account.now other c.in-Some.key.now found))
 
 pub returns-in-Some-clause-kvno : goal.returns-in-Some-clause-kvno
 returns-in-Some-clause-kvno c =
     let other : kvno_fits c.args.account.now.kvno c.args.encrypted.now ≡ false = sym (rw c.kvno.ensures.value at c.kvno_fits.ensures) ∙ c.if-kvno_fits.false in
     let found = sym (rw c.former.ensures.value at c.former_of.ensures) ∙ ap (λ o. option_copied o) c.in-Some.is in
-    c.kvno-2.ensures.value ∙ ap (λ (own : AccountKeyRecord). own.kvno) (sym (older_fits c.args.encrypted.now c.args.account.now other c.in-Some.key.now found))
+    c.kvno-in-Some.ensures.value ∙ ap (λ (own : AccountKeyRecord). own.kvno) (sym (older_fits c.args.encrypted.now c.args.account.now other c.in-Some.key.now found))
 
 pub returns-in-None-clause-key : goal.returns-in-None-clause-key
 returns-in-None-clause-key c =

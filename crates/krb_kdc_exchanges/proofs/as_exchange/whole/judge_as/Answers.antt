@@ -6,7 +6,6 @@ use Rattle.krb_kdc_exchanges.specs.Preauthentication.{reply_key_by}
 use Rattle.krb_kdc_exchanges.specs.Call.{call_of}
 use Rattle.krb_kdc_exchanges.specs.Allowed.{lifetime_of}
 use Rattle.krb_kdc_exchanges.specs.AsTable.{authenticated, possible}
-use Rattle.krb_kdc_exchanges.specs.Requests.{header_rows}
 use Rattle.krb_kdc_exchanges.proofs.AsJudged.{given_ticket, refused_accounts, refused_client, refused_ticket}
 use Rattle.krb_kdc_exchanges.proofs.as_exchange.whole.judge_as.Goals as goal
 
@@ -19,7 +18,7 @@ returns-in_err-check_first_allowed g c =
     (record { client_name = c.in-Some.client_name.now; client = c.in-Some-client.client.now; service_name = c.in-Some-service_of.service_name.now; service = c.in-Some-service.service.now })
     refusal
     (record {
-      header = subst (λ is. (header_rows 10 c.args.call.now.realm.now is c.args.request.now).gives (Ok tt)) c.has_refused_option-is_refused.ensures c.in_ok-check_header.ensures;
+      header = c.in_ok-check_request.ensures;
       client_name = sym c.in-Some.ensures;
       client = ap (λ o. option_copied o) c.in-Some-client.is;
       service_name = sym c.in-Some-service_of.ensures;
