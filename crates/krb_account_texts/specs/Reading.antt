@@ -112,13 +112,17 @@ lifetime_in text = number_or_dash fault.Lifetime text
 unfoldable pub marks_in : List ℕ → Result Attributes LineFault
 marks_in text = ok_or (find (λ marks. pointwise nat_eq text (marks_of marks)) ALL_MARKS) fault.Marks
 
--- The older key of these parts: suite, kvno and key.
-abbrev pub older_of : List (List ℕ) → Result AccountKeyRecord LineFault
-older_of (suite ∷ kvno ∷ key ∷ []) = do
+-- The older key of a suite, a kvno and a key.
+abbrev pub older_by : List ℕ → List ℕ → List ℕ → Result AccountKeyRecord LineFault
+older_by suite kvno key = do
   own_suite ← suite_in suite
   own_kvno ← kvno_in kvno
   own_key ← key_in own_suite key
   Ok (record { suite = own_suite; key = own_key; kvno = own_kvno })
+
+-- The older key of these parts: suite, kvno and key.
+abbrev pub older_of : List (List ℕ) → Result AccountKeyRecord LineFault
+older_of (suite ∷ kvno ∷ key ∷ []) = older_by suite kvno key
 older_of _ = Err fault.OlderKey
 
 -- The parts between colons (58).
@@ -151,10 +155,13 @@ marked_in kvno ends lifetime marks keys = do
   own_former ← former_in kvno keys
   Ok (record { attributes = record own_marks { ends = own_ends; lifetime = own_lifetime }; former = own_former })
 
+abbrev pub marked_among : ℕ → List (List ℕ) → Result FurtherRecord LineFault
+marked_among kvno (ends ∷ lifetime ∷ marks ∷ keys) = marked_in kvno ends lifetime marks keys
+marked_among kvno _ = Err fault.Fields
+
 abbrev pub further_in : ℕ → List (List ℕ) → Result FurtherRecord LineFault
 further_in kvno [] = Ok (record { attributes = NO_ATTRIBUTES; former = [] })
-further_in kvno (ends ∷ lifetime ∷ marks ∷ keys) = marked_in kvno ends lifetime marks keys
-further_in kvno _ = Err fault.Fields
+further_in kvno (field ∷ fields) = marked_among kvno (field ∷ fields)
 
 -- The account with what follows its key.
 abbrev pub with_further : CipherSuite → Bytes → ℕ → Option Bytes → FurtherRecord → AccountRecord
@@ -303,14 +310,17 @@ realm_by name skew lifetime digits words =
 abbrev pub realm_with : List ℕ → List ℕ → List ℕ → List ℕ → List ℕ → Result WrittenLine LineFault
 realm_with name skew lifetime words digits = words_in words >>= realm_by name skew lifetime digits
 
--- The line of these fields: of four, the first of which is the word `realm`, of these with two further ones, or of an account's five and what
--- follows them.
+-- The line of an account of these fields: of its five, and what follows them.
+abbrev pub active_of : List (List ℕ) → Result WrittenLine LineFault
+active_of (name ∷ suite ∷ kvno ∷ salt ∷ key ∷ further) = account_in false name suite kvno salt key further
+active_of _ = Err fault.Fields
+
+-- The line of these fields: of four, the first of which is the word `realm`, of these with two further ones, or of an account.
 abbrev pub line_of : List (List ℕ) → Result WrittenLine LineFault
 line_of (word ∷ name ∷ skew ∷ lifetime ∷ []) = if pointwise nat_eq word (codes "realm") then realm_in name skew lifetime NO_POLICY None else Err fault.Fields
 line_of (word ∷ name ∷ skew ∷ lifetime ∷ words ∷ digits ∷ []) =
     if pointwise nat_eq word (codes "realm") then realm_with name skew lifetime words digits else Err fault.Fields
-line_of (name ∷ suite ∷ kvno ∷ salt ∷ key ∷ further) = account_in false name suite kvno salt key further
-line_of _ = Err fault.Fields
+line_of fields = active_of fields
 
 -- The line of a disabled account, of these fields.
 abbrev pub disabled_of : List (List ℕ) → Result WrittenLine LineFault

@@ -1,11 +1,14 @@
 //! What follows the key in an account's line: its attributes and its older keys.
-ghost use Rattle.std.specs.Prelude.{◌≡◌, ◌≤◌, ◌++◌, ◌∷◌, ◌<◌, ◌^◌, length, map, string_bytes, IfOk, OnOk};
+ghost use Rattle.std.specs.Prelude.{◌≡◌, ◌≤◌, ◌++◌, ◌∷◌, ◌<◌, ◌^◌, nat_eq, length, map, string_bytes, IfOk, OnOk};
+ghost use Rattle.std.specs.Cmp.Lexicographic.{pointwise};
+ghost use Rattle.std.specs.List.{find};
 ghost use Rattle.krb_realm_accounts.specs.Account.{AreBefore};
 ghost use Rattle.krb_realm_accounts.specs.declared.limits.TheConstants.{FORMER_LIMIT};
 ghost use Rattle.krb_account_texts.specs.FurtherLines.{ends_text, former_text, further_fields, has_further, lifetime_text, marks_of, older_text};
 ghost use Rattle.krb_account_texts.specs.Further.{told_of_further};
-ghost use Rattle.krb_account_texts.specs.Reading.{colon_parts, ends_in, former_in, further_in, judged_former, lifetime_in, marked_in, marks_in, number_or_dash, older_in, older_of, since_epoch};
+ghost use Rattle.krb_account_texts.specs.Reading.{colon_parts, ends_in, former_in, further_in, judged_former, lifetime_in, marked_among, marked_in, marks_in, number_or_dash, older_by, older_in, older_of, since_epoch};
 ghost use Rattle.krb_account_texts.specs.Steps.{IsAside, each_from};
+ghost use Rattle.krb_account_texts.specs.declared.further.TheConstants.{ALL_MARKS};
 
 use crate::fault::LineFault;
 use crate::fields::{kvno_of, number_of, read_key, suite_of};
@@ -94,6 +97,17 @@ pub(crate) fn further_of(alloc: Global, kvno: u32, fields: &[&str]) -> Result<Fu
             attributes: NO_ATTRIBUTES,
             former: Vec::new(alloc),
         }),
+        [_, ..] => marked_among(alloc, kvno, fields),
+    }
+}
+
+// Reads these fields, of which there is one at least.
+fn marked_among(alloc: Global, kvno: u32, fields: &[&str]) -> Result<Further, LineFault>
+    ensures read { IsAside LineFault.Memory told_of_further (marked_among kvno (map (λ field. field.now) fields.now)) result }
+    ensures before { IfOk result (λ further. AreBefore kvno further.former.items) }
+    ensures few { IfOk result (λ further. length further.former.items ≤ FORMER_LIMIT) }
+{
+    match fields {
         [ends, lifetime, marks, keys @ ..] => marked_of(alloc, kvno, ends, lifetime, marks, keys),
         _ => Err(LineFault::Fields),
     }
@@ -169,14 +183,20 @@ fn number_or_dash(text: &str, otherwise: LineFault) -> Result<u64, LineFault>
 fn marks_of_text(text: &str) -> Result<Attributes, LineFault>
     ensures { result ≡ marks_in text.now }
 {
-    match ALL_MARKS
-        .iter()
-        .copied()
-        .find(|marks| text == marks_text(*marks))
-    {
+    match marks_named(text) {
         Some(marks) => Ok(marks),
         None => Err(LineFault::Marks),
     }
+}
+
+// The attributes that are marks of these words, if the words are such.
+fn marks_named(text: &str) -> Option<Attributes>
+    ensures { result ≡ find (λ marks. pointwise nat_eq text.now (marks_of marks)) ALL_MARKS }
+{
+    ALL_MARKS
+        .iter()
+        .copied()
+        .find(|marks| text == marks_text(*marks))
 }
 
 /// The words of the attributes that are marks, with a comma between each two, or `-` if none of them is set.
@@ -257,6 +277,13 @@ fn older_of(alloc: Global, parts: &[&str]) -> Result<AccountKey, LineFault>
     let [suite, kvno, key] = parts else {
         return Err(LineFault::OlderKey);
     };
+    older_by(alloc, suite, kvno, key)
+}
+
+// The older key of a suite, a kvno and a key.
+fn older_by(alloc: Global, suite: &str, kvno: &str, key: &str) -> Result<AccountKey, LineFault>
+    ensures { IsAside LineFault.Memory (λ own. own) (older_by suite.now kvno.now key.now) result }
+{
     let suite = suite_of(suite)?;
     let kvno = kvno_of(kvno)?;
     let key = read_key(alloc, suite, key)?;

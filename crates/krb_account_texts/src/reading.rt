@@ -4,7 +4,7 @@ ghost use Rattle.std.specs.List.{slice_split};
 ghost use Rattle.std.specs.Option.{option_map};
 ghost use Rattle.krb_constants.specs.declared.types.TheConstants.{NT_PRINCIPAL};
 ghost use Rattle.krb_account_texts.specs.Lines.{disabled_mark, written};
-ghost use Rattle.krb_account_texts.specs.Reading.{account_in, disabled_of, fields, is_disabled, is_ended, line_in, line_of, lines_in, lines_of, name_in, numbered, realm_by, realm_in};
+ghost use Rattle.krb_account_texts.specs.Reading.{account_in, active_of, disabled_of, fields, is_disabled, is_ended, line_in, line_of, lines_in, lines_of, name_in, numbered, realm_by, realm_in};
 ghost use Rattle.krb_account_texts.specs.Steps.{IsAside, each_from};
 
 use crate::fault::{LineFault, TextFault};
@@ -166,6 +166,15 @@ fn line_of(alloc: Global, fields: &[&str]) -> Result<Line, LineFault>
             };
             realm_with(alloc, start, Further { words, digits })
         }
+        _ => active_of(alloc, fields),
+    }
+}
+
+// The line of an account of these fields.
+fn active_of(alloc: Global, fields: &[&str]) -> Result<Line, LineFault>
+    ensures { IsAside LineFault.Memory written (active_of (map (λ field. field.now) fields.now)) result }
+{
+    match fields {
         [name, suite, kvno, salt, key, further @ ..] => {
             let start = AccountStart {
                 name,
