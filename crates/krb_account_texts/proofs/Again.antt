@@ -1,5 +1,5 @@
 -- What is written of a line is read as that line.
-use Rattle.std.proofs.Common.{◌≡◌, inl, inr, cond, ℕ, zero, suc, ◌/◌, ◌<◌, ◌≤◌, ◌^◌, ◌==◌, ◌&&◌, nat_eq, nat_le, not, Bool, true, false, List, [], ◌∷◌, ◌++◌, length, slice_index, codes, Option, None, Some, is_some, Result, Ok, IsTrue, refl, ap, sym, subst, ◌∙◌, arith}
+use Rattle.std.proofs.Common.{◌≡◌, inl, inr, cond, ℕ, zero, suc, ◌+◌, ◌/◌, ◌<◌, ◌≤◌, ◌^◌, ◌==◌, ◌&&◌, ◌||◌, nat_eq, nat_le, not, Bool, true, false, List, [], ◌∷◌, ◌++◌, length, map, slice_index, codes, Option, None, Some, is_some, Result, Ok, IsTrue, refl, ap, sym, subst, ◌∙◌, arith}
 use Rattle.std.specs.List.{list_all}
 use Rattle.std.specs.Option.{option_map}
 use Rattle.std.proofs.lemmas.List.{append-nil}
@@ -18,9 +18,9 @@ use Rattle.krb_realm_accounts.specs.Settings.{SettingsRecord}
 use Rattle.krb_realm_accounts.specs.declared.policy.Policy.{Policy}
 use Rattle.krb_realm_accounts.specs.declared.policy.TheConstants.{NO_POLICY}
 use Rattle.krb_settings.specs.Fields.{suite_name}
-use Rattle.krb_account_texts.specs.FurtherLines.{further_fields, has_further}
+use Rattle.krb_account_texts.specs.FurtherLines.{ends_text, further_fields, has_further, lifetime_text, marks_of, older_text}
 use Rattle.krb_account_texts.specs.Lines.{WrittenLine, comment, realm, account, account_fields, disabled_mark, guarded, line_text, further_by, realm_text, salt_text, words_text}
-use Rattle.krb_account_texts.specs.Reading.{account_in, disabled_of, fields, is_disabled, is_printed, judged_name, line_in, line_of, name_in, no_words, pkinit_in, realm_by, realm_in, realm_name_in, seconds_in, settings_of}
+use Rattle.krb_account_texts.specs.Reading.{account_in, active_of, disabled_of, fields, has_realm_fields, is_disabled, is_printed, judged_name, line_in, line_of, name_in, no_words, pkinit_in, realm_by, realm_in, realm_name_in, realm_line_of, seconds_in, settings_of}
 use Rattle.krb_account_texts.specs.Steps.{◌>>=◌}
 use Rattle.krb_account_texts.specs.Writable.{ArePkinitBytes, IsAccount, IsComment, IsRealm, IsWritable}
 use Rattle.krb_account_texts.specs.declared.fault.LineFault.{LineFault}
@@ -115,8 +115,19 @@ account-parts name own is =
 enough : (own : AccountRecord) (name suite kvno salt key : List ℕ) → line_of (name ∷ suite ∷ kvno ∷ salt ∷ key ∷ further_parts own) ≡ account_in false name suite kvno salt key (further_parts own)
 enough own name suite kvno salt key = by (has_further own)
   where
+    eight : (a b c d e f g h : List ℕ) (more : List (List ℕ)) → has_realm_fields (a ∷ b ∷ c ∷ d ∷ e ∷ f ∷ g ∷ h ∷ more) ≡ false
+    eight a b c d e f g h more =
+        let parts : List (List ℕ) = a ∷ b ∷ c ∷ d ∷ e ∷ f ∷ g ∷ h ∷ more in
+        let long : length parts ≡ 8 + length more = omega arith in
+        let not_four : (length parts == 4) ≡ false = grind (arith, nat_tests) in
+        let not_six : (length parts == 6) ≡ false = grind (arith, nat_tests) in
+        λ i. not_four i || not_six i
+
     by : (further : Bool) → line_of (name ∷ suite ∷ kvno ∷ salt ∷ key ∷ parts_where further own) ≡ account_in false name suite kvno salt key (parts_where further own)
-    by true = refl
+    by true =
+        let parts : List (List ℕ) = name ∷ suite ∷ kvno ∷ salt ∷ key ∷ parts_where true own in
+        ap (λ (is : Bool). cond is (realm_line_of parts) (active_of parts))
+        (eight name suite kvno salt key (ends_text own.attributes.ends) (lifetime_text own.attributes.lifetime) (marks_of own.attributes) (map older_text own.former))
     by false = refl
 
 account-line : (name : List Bytes) (own : AccountRecord) → IsAccount name own → line_in (account_fields name own) ≡ Ok (account name own false)

@@ -17,7 +17,7 @@ use Rattle.krb_realm_accounts.specs.Account.{AccountKeyRecord, AccountRecord, Ar
 use Rattle.krb_realm_accounts.specs.declared.attributes.TheConstants.{NO_ATTRIBUTES}
 use Rattle.krb_realm_accounts.proofs.Unset.{unset}
 use Rattle.krb_account_texts.specs.FurtherLines.{ends_text, former_text, further_fields, has_further, lifetime_text, marks_of, marks_text, older_text}
-use Rattle.krb_account_texts.specs.Reading.{colon_parts, ends_in, fields, former_in, further_in, lifetime_in, marks_in, number_or_dash, older_in, older_of}
+use Rattle.krb_account_texts.specs.Reading.{colon_parts, ends_in, fields, former_in, further_in, lifetime_in, marked_in, marks_in, number_or_dash, older_in, older_of}
 use Rattle.krb_account_texts.specs.Steps.{each_from}
 use Rattle.krb_account_texts.specs.Writable.{IsAccount, IsEnd}
 use Rattle.krb_account_texts.specs.declared.fault.LineFault.{LineFault}
@@ -160,6 +160,7 @@ empty [] none = refl
 empty (own ∷ keys) none = let some : 0 < length keys + 1 = omega arith in absurd (grind (arith, nat_tests))
 
 pub further-again : (name : List Bytes) (own : AccountRecord) → IsAccount name own → further_in own.kvno (further_parts own) ≡ Ok (record { attributes = own.attributes; former = own.former })
+unfolding marked_in
 further-again name own is = by (has_further own) refl
   where
     by : (further : Bool) → has_further own ≡ further → further_in own.kvno (parts_where further own) ≡ Ok (record { attributes = own.attributes; former = own.former })

@@ -130,6 +130,7 @@ same-further : (made other : FurtherRecord) → ◌≡◌ {A = Result FurtherRec
 same-further made other e = cc (e)
 
 marked-ok : (kvno : ℕ) (ends lifetime marks : List ℕ) (keys : List (List ℕ)) (further : FurtherRecord) → marked_in kvno ends lifetime marks keys ≡ Ok further → IsFurther kvno further
+unfolding marked_in
 marked-ok kvno ends lifetime marks keys further is =
     let at_ends = bind-ok (ends_in ends) _ _ is in
     let at_lifetime = bind-ok (lifetime_in lifetime) _ _ at_ends.2 in

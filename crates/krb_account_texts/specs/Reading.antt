@@ -147,7 +147,7 @@ pub record FurtherRecord : Type 0 where
   pub former : List AccountKeyRecord
 
 -- What these fields say that follow the key: there are none, or the last second, the greatest lifetime, the marks and the older keys.
-abbrev pub marked_in : ℕ → List ℕ → List ℕ → List ℕ → List (List ℕ) → Result FurtherRecord LineFault
+unfoldable pub marked_in : ℕ → List ℕ → List ℕ → List ℕ → List (List ℕ) → Result FurtherRecord LineFault
 marked_in kvno ends lifetime marks keys = do
   own_ends ← ends_in ends
   own_lifetime ← lifetime_in lifetime
@@ -315,12 +315,20 @@ abbrev pub active_of : List (List ℕ) → Result WrittenLine LineFault
 active_of (name ∷ suite ∷ kvno ∷ salt ∷ key ∷ further) = account_in false name suite kvno salt key further
 active_of _ = Err fault.Fields
 
--- The line of these fields: of four, the first of which is the word `realm`, of these with two further ones, or of an account.
-abbrev pub line_of : List (List ℕ) → Result WrittenLine LineFault
-line_of (word ∷ name ∷ skew ∷ lifetime ∷ []) = if pointwise nat_eq word (codes "realm") then realm_in name skew lifetime NO_POLICY None else Err fault.Fields
-line_of (word ∷ name ∷ skew ∷ lifetime ∷ words ∷ digits ∷ []) =
+-- The realm's line of these fields: of four, the first of which is the word `realm`, or of these with two further ones.
+abbrev pub realm_line_of : List (List ℕ) → Result WrittenLine LineFault
+realm_line_of (word ∷ name ∷ skew ∷ lifetime ∷ []) = if pointwise nat_eq word (codes "realm") then realm_in name skew lifetime NO_POLICY None else Err fault.Fields
+realm_line_of (word ∷ name ∷ skew ∷ lifetime ∷ words ∷ digits ∷ []) =
     if pointwise nat_eq word (codes "realm") then realm_with name skew lifetime words digits else Err fault.Fields
-line_of fields = active_of fields
+realm_line_of _ = Err fault.Fields
+
+-- There are as many fields as the realm's line has.
+abbrev pub has_realm_fields : List (List ℕ) → Bool
+has_realm_fields fields = (length fields == 4) || (length fields == 6)
+
+-- The line of these fields: the realm's, by their number, or that of an account.
+abbrev pub line_of : List (List ℕ) → Result WrittenLine LineFault
+line_of fields = if has_realm_fields fields then realm_line_of fields else active_of fields
 
 -- The line of a disabled account, of these fields.
 abbrev pub disabled_of : List (List ℕ) → Result WrittenLine LineFault

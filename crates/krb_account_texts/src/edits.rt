@@ -2,6 +2,7 @@
 ghost use Rattle.std.specs.Prelude.{◌≡◌, ◌<◌, ◌↔◌, ◌⊎◌, true, false, length, if◌then◌else◌, IfErr, IfOk, IfSome, Some, IsSome, OnOk, OnErr, None, Ok, Err};
 ghost use Rattle.std.specs.List.{insert};
 ghost use Rattle.std.specs.Option.{option_map};
+ghost use Rattle.krb_realm_accounts.specs.Accounts.{purged};
 ghost use Rattle.krb_account_texts.specs.Edits.{HasCertified, HasChanged, HasOneLess, HasOneMore, certified, is_krbtgt, is_line_of, is_name_spent, is_realm, is_service_of, is_spent, allowed_line, leaving, marked, place_of, purged_line, realm_place, rekeyed, rekeyed_keeping, staying};
 ghost use Rattle.krb_account_texts.specs.Order.{place_for};
 
@@ -195,6 +196,12 @@ fn purge_line(line: &mut Line)
     let Line::Account(own) = line else {
         return;
     };
+    purge_account(own);
+}
+
+fn purge_account(own: &mut AccountLine)
+    ensures { own.new ≡ record own.old { account = purged own.old.account } }
+{
     own.account.purge();
 }
 
@@ -222,6 +229,12 @@ fn allow_line(line: &mut Line, attributes: Attributes)
     let Line::Account(own) = line else {
         return;
     };
+    allow_account(own, attributes);
+}
+
+fn allow_account(own: &mut AccountLine, attributes: Attributes)
+    ensures { own.new ≡ record own.old { account = record own.old.account { attributes = attributes } } }
+{
     own.account.set_attributes(attributes);
 }
 

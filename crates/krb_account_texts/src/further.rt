@@ -114,6 +114,7 @@ fn marked_among(alloc: Global, kvno: u32, fields: &[&str]) -> Result<Further, Li
 }
 
 // Reads these fields: the last second, the greatest lifetime, the marks and the older keys.
+#[tactic(auto, unfolding(crate::specs::Reading::marked_in))]
 fn marked_of(
     alloc: Global,
     kvno: u32,

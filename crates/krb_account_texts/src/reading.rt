@@ -4,7 +4,7 @@ ghost use Rattle.std.specs.List.{slice_split};
 ghost use Rattle.std.specs.Option.{option_map};
 ghost use Rattle.krb_constants.specs.declared.types.TheConstants.{NT_PRINCIPAL};
 ghost use Rattle.krb_account_texts.specs.Lines.{disabled_mark, written};
-ghost use Rattle.krb_account_texts.specs.Reading.{account_in, active_of, disabled_of, fields, is_disabled, is_ended, line_in, line_of, lines_in, lines_of, name_in, numbered, realm_by, realm_in};
+ghost use Rattle.krb_account_texts.specs.Reading.{account_in, active_of, disabled_of, fields, has_realm_fields, is_disabled, is_ended, line_in, line_of, lines_in, lines_of, name_in, numbered, realm_by, realm_in, realm_line_of};
 ghost use Rattle.krb_account_texts.specs.Steps.{IsAside, each_from};
 
 use crate::fault::{LineFault, TextFault};
@@ -147,6 +147,23 @@ pub(crate) fn is_comment(text: &[u8]) -> bool
 fn line_of(alloc: Global, fields: &[&str]) -> Result<Line, LineFault>
     ensures { IsAside LineFault.Memory written (line_of (map (λ field. field.now) fields.now)) result }
 {
+    if has_realm_fields(fields) {
+        return realm_line_of(alloc, fields);
+    }
+    active_of(alloc, fields)
+}
+
+// Whether there are as many fields as the realm's line has.
+fn has_realm_fields(fields: &[&str]) -> bool
+    ensures { result ≡ has_realm_fields (map (λ field. field.now) fields.now) }
+{
+    fields.len() == 4 || fields.len() == 6
+}
+
+// The realm's line of these fields.
+fn realm_line_of(alloc: Global, fields: &[&str]) -> Result<Line, LineFault>
+    ensures { IsAside LineFault.Memory written (realm_line_of (map (λ field. field.now) fields.now)) result }
+{
     match fields {
         [word, name, skew, lifetime] => {
             let start = RealmStart {
@@ -166,7 +183,7 @@ fn line_of(alloc: Global, fields: &[&str]) -> Result<Line, LineFault>
             };
             realm_with(alloc, start, Further { words, digits })
         }
-        _ => active_of(alloc, fields),
+        _ => Err(LineFault::Fields),
     }
 }
 
