@@ -29,7 +29,7 @@ module _ (client : ClientRecord) (means : MeansRecord) (realm : RealmRecord) (ro
     name = met.parties.name;
     same = met.honest.named.client;
     known = met.honest.client;
-    free = met.unlimited.client met.honest.client.account met.honest.client.found;
+    free = met.unlimited.client_free met.honest.client.account met.honest.client.found;
     keyed = met.keyed;
   }
 
@@ -37,7 +37,7 @@ module _ (client : ClientRecord) (means : MeansRecord) (realm : RealmRecord) (ro
   as_honest = record {
     enough = met.enough.realm_as;
     granting = met.granting;
-    granting_free = met.unlimited.granting met.granting.account met.granting.found;
+    granting_free = met.unlimited.granting_free met.granting.account met.granting.found;
     not_renewed = refl;
     not_forwarded = refl;
     lasts = met.honest.timely.first.lasts;
@@ -80,7 +80,7 @@ module _ (client : ClientRecord) (means : MeansRecord) (realm : RealmRecord) (ro
       named = subst (λ name. are_components name ≡ true) (sym met.honest.named.asked) met.parties.entry.1.1;
       account = met.honest.service.account;
       found = ap realm.look met.honest.named.asked ∙ met.honest.service.found;
-      free = met.unlimited.service met.honest.service.account met.honest.service.found;
+      free = met.unlimited.service_free met.honest.service.account met.honest.service.found;
       near = met.honest.timely.tgs_near;
       valid = valid;
       lasts = λ is. further_lasts;

@@ -47,9 +47,9 @@ pub record AreNamed (asking : ClientRecord) (realm : RealmRecord) (asked_for : S
 
 -- nobody sets an attribute for the accounts that a login involves
 pub record AreUnlimited (client : ClientRecord) (service : ServiceRecord) (realm : RealmRecord) : Type 0 where
-  pub client : (account : AccountRecord) → realm.look client.components ≡ Some account → IsFree account
-  pub service : (account : AccountRecord) → realm.look service.entry.components ≡ Some account → IsFree account
-  pub granting : (account : AccountRecord) → realm.look (krbtgt_of realm.name) ≡ Some account → IsFree account
+  pub client_free : (account : AccountRecord) → realm.look client.components ≡ Some account → IsFree account
+  pub service_free : (account : AccountRecord) → realm.look service.entry.components ≡ Some account → IsFree account
+  pub granting_free : (account : AccountRecord) → realm.look (krbtgt_of realm.name) ≡ Some account → IsFree account
 
 -- the realm knows the client by its suite
 pub record IsClientKnown (client : ClientRecord) (realm : RealmRecord) : Type 0 where

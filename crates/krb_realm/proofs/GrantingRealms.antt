@@ -21,7 +21,7 @@ granting realm has = of (get realm.accounts (krbtgt_of realm.name)) refl has
 
 pub unlimited : (client : ClientRecord) (service : ServiceRecord) (realm : RealmState) → AreFree (look_in realm.accounts) → AreUnlimited client service (realm_record realm)
 unlimited client service realm free = record {
-  client = λ account found. free client.components account found;
-  service = λ account found. free service.entry.components account found;
-  granting = λ account found. free (krbtgt_of realm.name) account found;
+  client_free = λ account found. free client.components account found;
+  service_free = λ account found. free service.entry.components account found;
+  granting_free = λ account found. free (krbtgt_of realm.name) account found;
 }
