@@ -191,6 +191,7 @@ salt_again (Some salt) = refl
 in_turn : (kvno mark : ℕ) (octets later last : List ℕ) (account : AccountRecord) → nat_le 8 mark ≡ false → attributes_front (mark / 4 % 2 == 1) octets ≡ told account.attributes later
     → former_front (mark / 2 % 2 == 1) kvno later ≡ told account.former last → salt_in (mark % 2 == 1) last ≡ Some account.salt
     → further_in kvno mark octets ≡ Some (record { attributes = account.attributes; former = account.former; salt = account.salt })
+unfolding further_in
 in_turn kvno mark octets later last account few attributes former salt = rw (few, attributes, former, salt) refl
 
 pub further_again : (account : AccountRecord) → IsWhole account

@@ -127,7 +127,7 @@ pub record Further : Type 0 where
 abbrev salted : Attributes → Told (List AccountKeyRecord) → Bool → Option Further
 salted attributes former is = option_map (λ salt. record { attributes = attributes; former = former.told; salt = salt }) (salt_in is former.rest)
 
-abbrev pub further_in : ℕ → ℕ → List ℕ → Option Further
+unfoldable pub further_in : ℕ → ℕ → List ℕ → Option Further
 further_in kvno marks octets =
     if nat_le 8 marks then None
     else

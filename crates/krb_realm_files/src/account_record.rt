@@ -49,6 +49,7 @@ fn read_behind(alloc: Global, suite: CipherSuite, bytes: &[u8]) -> Result<Accoun
 }
 
 // Returns the account of this key, with what stands behind it, by the marks.
+#[tactic(auto, unfolding(crate::specs::FurtherFields::further_in))]
 fn read_further(
     alloc: Global,
     key: Key,
