@@ -173,10 +173,10 @@ pkinit-again (Some octets) are =
     let some : (length octets == 0) ≡ false = grind (arith, nat_tests) in
     rw (decode_of-encode_lower octets bytes, some) refl
 
-realm-again : (name : Bytes) (settings : SettingsRecord) (pkinit : Option Bytes) → IsRealm name settings pkinit
-    → realm_in name (decimal settings.skew) (decimal settings.lifetime) settings.policy (option_map encode_lower pkinit) ≡ Ok (realm name settings pkinit)
+realm-again : (name : Bytes) (settings : SettingsRecord) (guards : Bool) (pkinit : Option Bytes) → IsRealm name settings pkinit
+    → realm_in name (decimal settings.skew) (decimal settings.lifetime) settings.policy guards (option_map encode_lower pkinit) ≡ Ok (realm name settings guards pkinit)
 unfolding realm_in realm_name_in
-realm-again name settings pkinit is =
+realm-again name settings guards pkinit is =
     let skew = is.settings_are.0 in
     let from_one = is.settings_are.1.0 in
     let lifetime = is.settings_are.1.1 in
@@ -217,32 +217,34 @@ further-parts lifetime [] octets plain_lifetime plain_words plain_octets = rw ap
 further-parts lifetime (c ∷ words) octets plain_lifetime plain_words plain_octets =
     ap (λ (more : List ℕ). fields (lifetime ++ more)) (further-more c words octets) ∙ two-parts lifetime (c ∷ words) octets plain_lifetime plain_words plain_octets
 
-none-line : (name skew lifetime : List ℕ) (policy : Policy) (pkinit : Option Bytes) → no_words ≡ says policy (is_some pkinit)
-    → line_of (codes "realm" ∷ name ∷ skew ∷ lifetime ∷ []) ≡ realm_in name skew lifetime policy (option_map encode_lower pkinit)
-none-line name skew lifetime policy None same = ap (λ (words : Words). realm_in name skew lifetime words.policy None) same
-none-line name skew lifetime policy (Some octets) same = let off : false ≡ true = ap (λ (words : Words). words.is_certified) same in absurd (cc (off))
+none-line : (name skew lifetime : List ℕ) (policy : Policy) (guards : Bool) (pkinit : Option Bytes) → no_words ≡ says policy guards (is_some pkinit)
+    → line_of (codes "realm" ∷ name ∷ skew ∷ lifetime ∷ []) ≡ realm_in name skew lifetime policy guards (option_map encode_lower pkinit)
+none-line name skew lifetime policy guards None same = ap (λ (words : Words). realm_in name skew lifetime words.policy words.guards_passwords None) same
+none-line name skew lifetime policy guards (Some octets) same = let off : false ≡ true = ap (λ (words : Words). words.is_certified) same in absurd (cc (off))
 
-pkinit-line : (name skew lifetime : List ℕ) (policy : Policy) (pkinit : Option Bytes)
-    → realm_by name skew lifetime (salt_text pkinit) (says policy (is_some pkinit)) ≡ realm_in name skew lifetime policy (option_map encode_lower pkinit)
-pkinit-line name skew lifetime policy None = refl
-pkinit-line name skew lifetime policy (Some octets) = refl
+pkinit-line : (name skew lifetime : List ℕ) (policy : Policy) (guards : Bool) (pkinit : Option Bytes)
+    → realm_by name skew lifetime (salt_text pkinit) (says policy guards (is_some pkinit)) ≡ realm_in name skew lifetime policy guards (option_map encode_lower pkinit)
+pkinit-line name skew lifetime policy guards None = refl
+pkinit-line name skew lifetime policy guards (Some octets) = refl
 
-further-line : (name skew lifetime : List ℕ) (policy : Policy) (pkinit : Option Bytes) → policy.renewable_life ≤ 31536000 → (words : List ℕ) → words_text policy (is_some pkinit) ≡ words
-    → line_of (codes "realm" ∷ name ∷ skew ∷ lifetime ∷ words_fields words (salt_text pkinit)) ≡ realm_in name skew lifetime policy (option_map encode_lower pkinit)
-further-line name skew lifetime policy pkinit few [] is = none-line name skew lifetime policy pkinit (no-words policy (is_some pkinit) few is)
-further-line name skew lifetime policy pkinit few (c ∷ words) is =
-    ap (λ (own : Result Words LineFault). own >>= realm_by name skew lifetime (salt_text pkinit)) (words-read policy (is_some pkinit) c words few is)
-    ∙ pkinit-line name skew lifetime policy pkinit
+further-line : (name skew lifetime : List ℕ) (policy : Policy) (guards : Bool) (pkinit : Option Bytes) → policy.renewable_life ≤ 31536000 → (words : List ℕ)
+    → words_text policy guards (is_some pkinit) ≡ words
+    → line_of (codes "realm" ∷ name ∷ skew ∷ lifetime ∷ words_fields words (salt_text pkinit)) ≡ realm_in name skew lifetime policy guards (option_map encode_lower pkinit)
+further-line name skew lifetime policy guards pkinit few [] is = none-line name skew lifetime policy guards pkinit (no-words policy guards (is_some pkinit) few is)
+further-line name skew lifetime policy guards pkinit few (c ∷ words) is =
+    ap (λ (own : Result Words LineFault). own >>= realm_by name skew lifetime (salt_text pkinit)) (words-read policy guards (is_some pkinit) c words few is)
+    ∙ pkinit-line name skew lifetime policy guards pkinit
 
-realm-line : (name : Bytes) (settings : SettingsRecord) (pkinit : Option Bytes) → IsRealm name settings pkinit → line_in (realm_text name settings pkinit) ≡ Ok (realm name settings pkinit)
+realm-line : (name : Bytes) (settings : SettingsRecord) (guards : Bool) (pkinit : Option Bytes) → IsRealm name settings pkinit
+    → line_in (realm_text name settings guards pkinit) ≡ Ok (realm name settings guards pkinit)
 unfolding line_in
-realm-line name settings pkinit is =
+realm-line name settings guards pkinit is =
     let lifetime : List ℕ = decimal settings.lifetime in
-    let words : List ℕ = words_text settings.policy (is_some pkinit) in
+    let words : List ℕ = words_text settings.policy guards (is_some pkinit) in
     let octets : List ℕ = salt_text pkinit in
-    let last = further-parts lifetime words octets (plain-lifetime name settings pkinit is) (plain-words settings.policy (is_some pkinit) is.life_is) (plain-salt pkinit) in
+    let last = further-parts lifetime words octets (plain-lifetime name settings pkinit is) (plain-words settings.policy guards (is_some pkinit) is.life_is) (plain-salt pkinit) in
     ap line_of (realm-parts name settings pkinit is (further_by words octets) (words_fields words octets) last)
-    ∙ further-line name (decimal settings.skew) lifetime settings.policy pkinit is.life_is words refl ∙ realm-again name settings pkinit is
+    ∙ further-line name (decimal settings.skew) lifetime settings.policy guards pkinit is.life_is words refl ∙ realm-again name settings guards pkinit is
 
 comment-line : (text : Bytes) → IsComment text → line_in text ≡ Ok (comment text)
 unfolding line_in
@@ -252,7 +254,7 @@ comment-line text is =
 
 pub line-again : (line : WrittenLine) → IsWritable line → line_in (line_text line) ≡ Ok line
 line-again (comment text) is = comment-line text is
-line-again (realm name settings pkinit) is = realm-line name settings pkinit is
+line-again (realm name settings guards pkinit) is = realm-line name settings guards pkinit is
 line-again (account name own true) is = disabled-line name own is
 line-again (account name own false) is = account-line name own is
 
@@ -276,12 +278,13 @@ further-fed lifetime (c ∷ words) octets plain_lifetime plain_words plain_octet
     ap (λ (more : List ℕ). list_all (λ octet. not (octet == 10)) (lifetime ++ more)) (further-more c words octets)
     ∙ two-fed lifetime (c ∷ words) octets plain_lifetime plain_words plain_octets
 
-realm-fed : (name : Bytes) (settings : SettingsRecord) (pkinit : Option Bytes) → IsRealm name settings pkinit → list_all (λ octet. not (octet == 10)) (realm_text name settings pkinit) ≡ true
-realm-fed name settings pkinit is =
-    let words : List ℕ = words_text settings.policy (is_some pkinit) in
+realm-fed : (name : Bytes) (settings : SettingsRecord) (guards : Bool) (pkinit : Option Bytes) → IsRealm name settings pkinit
+    → list_all (λ octet. not (octet == 10)) (realm_text name settings guards pkinit) ≡ true
+realm-fed name settings guards pkinit is =
+    let words : List ℕ = words_text settings.policy guards (is_some pkinit) in
     let octets : List ℕ = salt_text pkinit in
     realm-front name settings pkinit is (further_by words octets)
-    (further-fed (decimal settings.lifetime) words octets (plain-lifetime name settings pkinit is) (plain-words settings.policy (is_some pkinit) is.life_is) (plain-salt pkinit))
+    (further-fed (decimal settings.lifetime) words octets (plain-lifetime name settings pkinit is) (plain-words settings.policy guards (is_some pkinit) is.life_is) (plain-salt pkinit))
 
 fields-fed : (name : List Bytes) (own : AccountRecord) → IsAccount name own → list_all (λ octet. not (octet == 10)) (account_fields name own) ≡ true
 fields-fed name own is =
@@ -293,6 +296,6 @@ fields-fed name own is =
 
 pub line-fed : (line : WrittenLine) → IsWritable line → list_all (λ octet. not (octet == 10)) (line_text line) ≡ true
 line-fed (comment text) is = is.line
-line-fed (realm name settings pkinit) is = realm-fed name settings pkinit is
+line-fed (realm name settings guards pkinit) is = realm-fed name settings guards pkinit is
 line-fed (account name own true) is = all-both (λ octet. not (octet == 10)) disabled_mark (account_fields name own) refl (fields-fed name own is)
 line-fed (account name own false) is = fields-fed name own is

@@ -198,15 +198,18 @@ settings_of skew lifetime =
 
 -- No word.
 abbrev pub no_words : Words
-no_words = record { policy = NO_POLICY; is_certified = false }
+no_words = record { policy = NO_POLICY; guards_passwords = false; is_certified = false }
 
 -- A word may follow where neither it nor a later one is there. The words are `limits-des3`, `forwardable`, `proxiable`, `renewable=` with
--- seconds, and `pkinit`, in this order.
+-- seconds, `guards-passwords` and `pkinit`, in this order.
 abbrev pub may_certify : Words → Bool
 may_certify words = not words.is_certified
 
+abbrev pub may_guard : Words → Bool
+may_guard words = not words.guards_passwords && may_certify words
+
 abbrev pub may_renew : Words → Bool
-may_renew words = (words.policy.renewable_life == 0) && may_certify words
+may_renew words = (words.policy.renewable_life == 0) && may_guard words
 
 abbrev pub may_proxy : Words → Bool
 may_proxy words = not words.policy.proxiable && may_renew words
@@ -219,19 +222,22 @@ may_limit words = not words.policy.limits_des3 && may_forward words
 
 -- The words with one more.
 abbrev pub limited : Words → Words
-limited words = record { policy = record words.policy { limits_des3 = true }; is_certified = words.is_certified }
+limited words = record { policy = record words.policy { limits_des3 = true }; guards_passwords = words.guards_passwords; is_certified = words.is_certified }
 
 abbrev pub forwarded : Words → Words
-forwarded words = record { policy = record words.policy { forwardable = true }; is_certified = words.is_certified }
+forwarded words = record { policy = record words.policy { forwardable = true }; guards_passwords = words.guards_passwords; is_certified = words.is_certified }
 
 abbrev pub proxied : Words → Words
-proxied words = record { policy = record words.policy { proxiable = true }; is_certified = words.is_certified }
+proxied words = record { policy = record words.policy { proxiable = true }; guards_passwords = words.guards_passwords; is_certified = words.is_certified }
 
 abbrev pub renewed : ℕ → Words → Words
-renewed life words = record { policy = record words.policy { renewable_life = life }; is_certified = words.is_certified }
+renewed life words = record { policy = record words.policy { renewable_life = life }; guards_passwords = words.guards_passwords; is_certified = words.is_certified }
+
+abbrev pub guarding : Words → Words
+guarding words = record { policy = words.policy; guards_passwords = true; is_certified = words.is_certified }
 
 abbrev pub certified : Words → Words
-certified words = record { policy = words.policy; is_certified = true }
+certified words = record { policy = words.policy; guards_passwords = words.guards_passwords; is_certified = true }
 
 -- The words, if the last one may follow those before it.
 abbrev pub if_may : Bool → Words → Result Words LineFault
@@ -265,15 +271,17 @@ next_words words word =
     if pointwise nat_eq word (codes "limits-des3") then if_may (may_limit words) (limited words)
     else (if pointwise nat_eq word (codes "forwardable") then if_may (may_forward words) (forwarded words)
     else (if pointwise nat_eq word (codes "proxiable") then if_may (may_proxy words) (proxied words)
+    else (if pointwise nat_eq word (codes "guards-passwords") then if_may (may_guard words) (guarding words)
     else (if pointwise nat_eq word (codes "pkinit") then if_may (may_certify words) (certified words)
-    else (if is_renewable word then with_life words (drop (length renewable_mark) word) else Err fault.Words))))
+    else (if is_renewable word then with_life words (drop (length renewable_mark) word) else Err fault.Words)))))
 
 -- The words with each of these behind them.
 abbrev pub words_behind : Words → List (List ℕ) → Result Words LineFault
 words_behind words [] = Ok words
 words_behind words (word ∷ more) = next_words words word >>= (λ next. words_behind next more)
 
--- What the words of a realm's line say: the policy, and whether logins by certificate are answered. A comma (44) is between each two.
+-- What the words of a realm's line say: the policy, whether passwords are guarded, and whether logins by certificate are answered. A comma
+-- (44) is between each two.
 unfoldable pub words_in : List ℕ → Result Words LineFault
 words_in text = words_behind no_words (slice_split (λ octet. octet == 44) text)
 
@@ -290,23 +298,24 @@ abbrev pub pkinit_in : Option (List ℕ) → Result (Option Bytes) LineFault
 pkinit_in None = Ok None
 pkinit_in (Some digits) = octets_told fault.Pkinit (decode_of digits) >>= some_pkinit
 
--- The realm's line of these fields and this policy, or the first fault in their order.
-unfoldable pub realm_in : List ℕ → List ℕ → List ℕ → Policy → Option (List ℕ) → Result WrittenLine LineFault
-realm_in name skew lifetime policy digits = do
+-- The realm's line of these fields, of this policy and of whether passwords are guarded, or the first fault in their order.
+unfoldable pub realm_in : List ℕ → List ℕ → List ℕ → Policy → Bool → Option (List ℕ) → Result WrittenLine LineFault
+realm_in name skew lifetime policy guards digits = do
   own_name ← realm_name_in name
   own_skew ← seconds_in skew
   own_lifetime ← seconds_in lifetime
   settings ← settings_of own_skew own_lifetime
   pkinit ← pkinit_in digits
-  Ok (realm own_name (with_policy policy settings) pkinit)
+  Ok (realm own_name (with_policy policy settings) guards pkinit)
 
 -- The realm's line of three fields, of words that were read, and of what logins by certificate are answered by, or `-` where they aren't.
 abbrev pub realm_by : List ℕ → List ℕ → List ℕ → List ℕ → Words → Result WrittenLine LineFault
 realm_by name skew lifetime digits words =
-    if words.is_certified then realm_in name skew lifetime words.policy (Some digits)
-    else (if pointwise nat_eq digits (codes "-") then realm_in name skew lifetime words.policy None else Err fault.NoPkinit)
+    if words.is_certified then realm_in name skew lifetime words.policy words.guards_passwords (Some digits)
+    else (if pointwise nat_eq digits (codes "-") then realm_in name skew lifetime words.policy words.guards_passwords None else Err fault.NoPkinit)
 
--- The realm's line of three fields and two further ones: the words of policy and logins by certificate, and what these are answered by.
+-- The realm's line of three fields and two further ones: the words of policy, guarded passwords and logins by certificate, and what these
+-- are answered by.
 abbrev pub realm_with : List ℕ → List ℕ → List ℕ → List ℕ → List ℕ → Result WrittenLine LineFault
 realm_with name skew lifetime words digits = words_in words >>= realm_by name skew lifetime digits
 
@@ -317,7 +326,7 @@ active_of _ = Err fault.Fields
 
 -- The realm's line of these fields: of four, the first of which is the word `realm`, or of these with two further ones.
 abbrev pub realm_line_of : List (List ℕ) → Result WrittenLine LineFault
-realm_line_of (word ∷ name ∷ skew ∷ lifetime ∷ []) = if pointwise nat_eq word (codes "realm") then realm_in name skew lifetime NO_POLICY None else Err fault.Fields
+realm_line_of (word ∷ name ∷ skew ∷ lifetime ∷ []) = if pointwise nat_eq word (codes "realm") then realm_in name skew lifetime NO_POLICY false None else Err fault.Fields
 realm_line_of (word ∷ name ∷ skew ∷ lifetime ∷ words ∷ digits ∷ []) =
     if pointwise nat_eq word (codes "realm") then realm_with name skew lifetime words digits else Err fault.Fields
 realm_line_of _ = Err fault.Fields

@@ -58,7 +58,7 @@ pub record IsAccount (name : List Bytes) (own : AccountRecord) : Type 0 where
 
 abbrev pub IsWritable : WrittenLine → Type 0
 IsWritable (comment text) = IsComment text
-IsWritable (realm name settings pkinit) = IsRealm name settings pkinit
+IsWritable (realm name settings guards pkinit) = IsRealm name settings pkinit
 IsWritable (account name own is_disabled) = IsAccount name own
 
 -- each line of the list can be written

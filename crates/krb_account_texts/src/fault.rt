@@ -13,7 +13,7 @@ pub enum LineFault {
     #[error("expected name, suite, kvno, salt and key, and perhaps last second, lifetime, marks and older keys, or realm, name, skew and lifetime, and perhaps words and octets or -, with a tab between each two")]
     Fields,
     /// The fifth of six fields has another word than those of a realm's line, or one twice, or they are in another order.
-    #[error("words: expected some of limits-des3, forwardable, proxiable, renewable=SECONDS and pkinit, in this order, with a comma between each two")]
+    #[error("words: expected some of limits-des3, forwardable, proxiable, renewable=SECONDS, guards-passwords and pkinit, in this order, with a comma between each two")]
     Words,
     /// The greatest renewable life is no number of seconds from one to a year's.
     #[error("renewable: expected a whole number of seconds from 1 to 31536000")]

@@ -225,7 +225,7 @@ struct RealmStart<'a> {
     lifetime: &'a str,
 }
 
-// What follows in a realm's line: the words of policy and logins by certificate, and what these are answered by.
+// What follows in a realm's line: the words of policy, guarded passwords and logins by certificate, and what these are answered by.
 #[derive(Clone, Copy)]
 struct Further<'a> {
     words: &'a str,
@@ -237,7 +237,7 @@ fn plain_realm_of(alloc: Global, start: RealmStart<'_>) -> Result<Line, LineFaul
     ensures { IsAside LineFault.Memory written (line_of (start.entry.word.now ∷ start.entry.name.now ∷ start.entry.skew.now ∷ start.entry.lifetime.now ∷ [])) result }
 {
     if start.word == "realm" {
-        return realm_of(alloc, start, NO_POLICY, None);
+        return realm_of(alloc, start, NO_POLICY, false, None);
     }
     Err(LineFault::Fields)
 }
@@ -263,11 +263,12 @@ fn realm_by(
 ) -> Result<Line, LineFault>
     ensures { IsAside LineFault.Memory written (realm_by start.entry.name.now start.entry.skew.now start.entry.lifetime.now digits.now words) result }
 {
+    let guards = words.guards_passwords;
     if words.is_certified {
-        return realm_of(alloc, start, words.policy, Some(digits));
+        return realm_of(alloc, start, words.policy, guards, Some(digits));
     }
     if digits == "-" {
-        return realm_of(alloc, start, words.policy, None);
+        return realm_of(alloc, start, words.policy, guards, None);
     }
     Err(LineFault::NoPkinit)
 }
@@ -277,10 +278,11 @@ fn realm_of(
     alloc: Global,
     start: RealmStart<'_>,
     policy: Policy,
+    guards: bool,
     digits: Option<&str>,
 ) -> Result<Line, LineFault>
     ensures { IsAside LineFault.Memory written
-        (realm_in start.entry.name.now start.entry.skew.now start.entry.lifetime.now policy (option_map (λ digits. digits.now) digits.entry)) result }
+        (realm_in start.entry.name.now start.entry.skew.now start.entry.lifetime.now policy guards (option_map (λ digits. digits.now) digits.entry)) result }
 {
     let name = realm_name_of_text(alloc, start.name)?;
     let skew = seconds_of(start.skew)?;
@@ -290,6 +292,7 @@ fn realm_of(
     Ok(Line::Realm(RealmLine {
         name,
         settings: settings.with_policy(policy),
+        guards_passwords: guards,
         pkinit,
     }))
 }
