@@ -116,6 +116,7 @@ fn realm_line(alloc: Global, name: &str) -> Result<RealmLine, Stop> {
     Ok(RealmLine {
         name,
         settings: settings.with_policy(NEW_POLICY),
+        guards_passwords: false,
         pkinit: None,
     })
 }
@@ -154,7 +155,8 @@ fn given_of<'a>(
     })
 }
 
-/// `add [-e SUITE] [-k [random]] TEXT NAME`: adds an account, with kvno 1.
+/// `add [-e SUITE] [-k [random]] TEXT NAME`: adds an account, with kvno 1. Where the realm guards passwords, one with a password is no
+/// service.
 pub(crate) fn add_account(rt: &HostRuntime, arguments: &[String]) -> Result<(), Stop> {
     let command = "add [-e SUITE] [-k [random]] TEXT NAME";
     let given = given_of(rt, command, arguments)?;
@@ -257,7 +259,7 @@ fn told_secret(alloc: Global, given: &Given<'_>, key: &Key) -> Result<Secret, Al
 }
 
 /// `key [-e SUITE] [-k [random]] [--keep] TEXT NAME`: gives an account its next key, with the next kvno. With `--keep`, and for the realm's
-/// ticket-granting service, the keys before stay.
+/// ticket-granting service, the keys before stay. Where the realm guards passwords, an account with a password is no service then.
 pub(crate) fn change_account(rt: &HostRuntime, arguments: &[String]) -> Result<(), Stop> {
     let command = "key [-e SUITE] [-k [random]] [--keep] TEXT NAME";
     let given = given_of(rt, command, arguments)?;

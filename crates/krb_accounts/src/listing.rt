@@ -18,9 +18,9 @@ use std::io::IsTerminal;
 /// What is above the accounts at a terminal. What isn't one gets no header, so that programs read lines of accounts alone.
 const HEADER: &str = "name\tsuite\tkvno\tkey\n";
 
-/// `list TEXT [PATTERN]`: prints the realm, its policy, and whether it answers logins by certificate. It prints each account's name, suite,
-/// kvno, whether its key is of a password, how many older keys it keeps, its attributes, and whether it is disabled. With a pattern, it
-/// prints the accounts whose names it matches, and no realm.
+/// `list TEXT [PATTERN]`: prints the realm, its policy, and whether it guards passwords and answers logins by certificate. It prints each
+/// account's name, suite, kvno, whether its key is of a password, how many older keys it keeps, its attributes, and whether it is disabled.
+/// With a pattern, it prints the accounts whose names it matches, and no realm.
 pub(crate) fn list(rt: &HostRuntime, arguments: &[String]) -> Result<(), Stop> {
     match arguments {
         [path] => print_listed(rt, path.as_str(), None),
@@ -112,8 +112,9 @@ fn realm_listed(alloc: Global, realm: &RealmLine) -> Result<String, AllocError> 
     let skew = realm.settings.skew();
     let lifetime = realm.settings.lifetime();
     let policy = policy_listed(alloc, realm.settings.policy())?;
+    let guards = word_if(realm.guards_passwords, "\tguards-passwords");
     let further = word_if(realm.pkinit.is_some(), "\tpkinit");
-    format!(in alloc; "realm\t{name}\t{skew}\t{lifetime}{policy}{further}\n")
+    format!(in alloc; "realm\t{name}\t{skew}\t{lifetime}{policy}{guards}{further}\n")
 }
 
 // The words of a policy, each behind a tab.

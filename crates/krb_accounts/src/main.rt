@@ -67,8 +67,10 @@ Without --keep it takes the keys before away, but for krbtgt, whose keys before 
 lifetime=SECONDS, with - for none, or +off, +must-change or +no-service, with - in place of + to take it away.
 CERTIFICATE, KEY and ANCHOR are files, in PEM or DER. KEY has at least 2,048 bits, and is not encrypted.
 The realm's policy is set in TEXT by an editor: behind skew and lifetime, with a tab between each two, the realm's line has the words and -,
-or with the word pkinit what certify writes. The words are limits-des3, forwardable, proxiable, renewable=SECONDS and pkinit, in this order,
-with a comma between each two. SECONDS, from 1 to 31536000, is how long a ticket may be renewed. What has no word is off.";
+or with the word pkinit what certify writes. The words are limits-des3, forwardable, proxiable, renewable=SECONDS, guards-passwords and
+pkinit, in this order, with a comma between each two. SECONDS, from 1 to 31536000, is how long a ticket may be renewed. With
+guards-passwords add and key set +no-service where the key is of a password: nobody gets a ticket then by which to guess it. What has no
+word is off.";
 
 fn main(rt: HostRuntime) -> ExitCode {
     match run(&rt) {
