@@ -85,7 +85,7 @@ SECONDS = "realm: expected a skew from 0 to 86400 seconds and a lifetime from 1 
 NAME_OR_SUITE = SUITE
 NO_REALM = "expected the line of the realm before all accounts: realm, name, skew and lifetime"
 PKINIT = "pkinit: expected pairs of hexadecimal digits, as certify writes them"
-WORD = "words: expected some of limits-des3, forwardable, proxiable, renewable=SECONDS and pkinit, in this order, with a comma between each two"
+WORD = "words: expected some of limits-des3, forwardable, proxiable, renewable=SECONDS, guards-passwords and pkinit, in this order, with a comma between each two"
 RENEWABLE = "renewable: expected a whole number of seconds from 1 to 31536000"
 NO_PKINIT = "expected - behind words without pkinit"
 ORDER = "name: expected accounts in the order of their names, each name once"
@@ -179,12 +179,13 @@ row("certify", fold(BOTH + ONE), "-", fold(LIMITED + ONE))
 row("remove", fold(LIMITED + ONE), "a", fold(LIMITED))
 for further, fault in [
     ("limits-des3\t00", NO_PKINIT), ("limits-des3\t", NO_PKINIT), ("limits-des3", NAME_OR_SUITE), ("limits-des3,pkinit\t-", PKINIT), ("pkinit,limits-des3\t00", WORD),
-    ("limits-des3\t-\tpkinit\t00", NAME_OR_SUITE), ("limits\t-", WORD),
+    ("limits-des3\t-\tpkinit\t00", NAME_OR_SUITE), ("limits\t-", WORD), ("guards-passwords,guards-passwords\t-", WORD), ("guards-passwords,renewable=1\t-", WORD),
+    ("guards-passwords,limits-des3\t-", WORD), ("pkinit,guards-passwords\t00", WORD), ("guards-passwords\t00", NO_PKINIT), ("guards-passwords,pkinit\t-", PKINIT),
 ]:
     row("read", fold(HEAD.replace("\n", f"\t{further}\n")), "1: " + fault)
 
-# The words of a policy. What is read of them is judged here word by word.
-WORDS = ["limits-des3", "forwardable", "proxiable", "renewable", "pkinit"]
+# The words of a realm's line. What is read of them is judged here word by word.
+WORDS = ["limits-des3", "forwardable", "proxiable", "renewable", "guards-passwords", "pkinit"]
 
 def fault_of(words, pkinit):
     last = -1
@@ -204,7 +205,7 @@ def realm(words, pkinit):
     further = [*words, *(["pkinit"] if pkinit else [])]
     return HEAD.replace("\n", f"\t{','.join(further)}\t{pkinit.hex() if pkinit else '-'}\n") if further else HEAD
 
-for chosen in itertools.product([False, True], repeat=4):
+for chosen in itertools.product([False, True], repeat=5):
     life = random.choice([1, 2, 604800, 31535999, 31536000, random.randrange(1, 31536001)])
     words = [f"{word}={life}" if word == "renewable" else word for word, is_set in zip(WORDS, chosen) if is_set]
     without, certified = realm(words, b""), realm(words, b"\x00\xff")
@@ -214,10 +215,10 @@ for chosen in itertools.product([False, True], repeat=4):
     row("certify", fold(certified + ONE), "-", fold(without + ONE))
     row("disable", fold(without + ONE), "a", fold(without + "#disabled\t" + ONE))
 
-ODD = ["limits-des3", "forwardable", "proxiable", "pkinit", "renewable=604800", "renewable=1", "renewable=31536000", "renewable", "renewable=", "renewable=0",
+ODD = ["limits-des3", "forwardable", "proxiable", "pkinit", "renewable=604800", "guards-passwords", "renewable=1", "renewable=31536000", "renewable", "renewable=", "renewable=0",
        "renewable=31536001", "renewable=-1", "renewable=1d", "renewable= 1", "renewable=4294967296", "renewable=99999999999999999999", "renewable==1", "forwardable=",
-       "Forwardable", "proxiable ", " forwardable", "forwardables", "forward", "renewable=1=", "-", ""]
-tried = [*ODD, *(random.choice(ODD) + "," + random.choice(ODD) for _ in range(30)), *(",".join(random.sample(ODD[:5], random.randrange(2, 6))) for _ in range(30))]
+       "Forwardable", "proxiable ", " forwardable", "forwardables", "forward", "renewable=1=", "guards-password", "guards-passwords=", "guards_passwords", "-", ""]
+tried = [*ODD, *(random.choice(ODD) + "," + random.choice(ODD) for _ in range(30)), *(",".join(random.sample(ODD[:6], random.randrange(2, 7))) for _ in range(40))]
 for words in sorted(set(tried)):
     for pkinit in "-", random.choice(["00", "0", "", "--", "0F"]):
         text = HEAD.replace("\n", f"\t{words}\t{pkinit}\n") + ONE
@@ -273,6 +274,30 @@ row("purge", fold(HEAD + TWENTIETH), "b", "no such account")
 row("off", fold(HEAD + further(TWENTIETH, "5", "6", "no-service", *older(19))), "a", fold(HEAD + further(TWENTIETH, "-", "-", "off", *older(19))))
 row("off", fold(HEAD + ONE + KRBTGT), "krbtgt/EXAMPLE.COM", KEPT)
 row("off", fold(HEAD + ONE), "b", "no such account")
+
+# Keys of passwords, which have a salt. Where the realm guards passwords, an account that is given such a key is no service.
+def given(words, salt, kvno, fields, former):
+    """The line of an account that was given a key, which had these fields before, and keeps these keys."""
+    ends, lifetime, marks, *_ = fields or ("-", "-", "-")
+    is_guarded = "guards-passwords" in words.split(",") and salt != "-"
+    kept = [mark for mark in ("off", "no-service") if mark in marks.split(",") or mark == "no-service" and is_guarded]
+    behind = ends, lifetime, ",".join(kept) or "-", *former
+    own = f"a\t{SUITE_OF_ONE}\t{kvno}\t{salt}\t{NEXT}\n"
+    return own if set(behind) == {"-"} else further(own, *behind)
+
+for words in "", "limits-des3,pkinit", "guards-passwords", "limits-des3,forwardable,proxiable,renewable=1,guards-passwords,pkinit":
+    head = HEAD.replace("\n", f"\t{words}\t{'00ff' if 'pkinit' in words else '-'}\n") if words else HEAD
+    for salt in "-", "73616c74", "":
+        mark, last = ("", []) if salt == "-" else ("-salted", [salt])
+        row("add" + mark, fold(head), "a", SUITE_OF_ONE, NEXT, *last, fold(head + given(words, salt, 1, (), ())))
+        for fields in (), ("5", "6", "off,must-change"), ("-", "-", "no-service"), ("-", "-", "must-change,no-service", *older(19, 1)), ("-", "7", "-", *older(*range(15, 0, -1))):
+            for disabled in ["", "#disabled\t"][:1 + (fields == ())]:
+                before = head + disabled + (further(TWENTIETH, *fields) if fields else TWENTIETH)
+                row("key" + mark, fold(before), "a", SUITE_OF_ONE, NEXT, *last, fold(head + disabled + given(words, salt, 21, fields, ())))
+                row("keep" + mark, fold(before), "a", SUITE_OF_ONE, NEXT, *last,
+                    fold(head + disabled + given(words, salt, 21, fields, [OWN, *fields[3:]][:15])))
+GUARDED = HEAD.replace("\n", "\tguards-passwords\t-\n")
+row("off", fold(GUARDED + further(ONE, "-", "-", "no-service")), "a", fold(GUARDED + further(ONE, "-", "-", "off")))
 
 with open("account_texts.txt", "w", encoding="utf-8") as out:
     out.write("".join(row + "\n" for row in rows))
