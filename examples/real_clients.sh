@@ -246,6 +246,16 @@ by_changed_keys() {
     try "MIT: kinit by password, as before" yes "" typed "$(cat "$work/new_password")" mit kinit user
     try "Heimdal: kinit by password, as before" yes "" heimdal kinit.heimdal "--password-file=$work/new_password" user@EXAMPLE.COM
 
+    echo "== guarded passwords"
+    try "MIT: kvno, a ticket for the user" yes "kvno = 2" mit kvno user
+    try "Heimdal: kgetcred, a ticket for the user" yes "" heimdal kgetcred user@EXAMPLE.COM
+    try "the user's next password, where passwords are guarded" yes "" typed "$(cat "$work/new_password")" guarded_key
+    try "MIT: kinit by a guarded password" yes "" typed "$(cat "$work/new_password")" mit kinit user
+    try "Heimdal: kinit by a guarded password" yes "" heimdal kinit.heimdal "--password-file=$work/new_password" user@EXAMPLE.COM
+    try "MIT: kvno, no ticket for the user" no "policy" mit kvno user
+    try "Heimdal: kgetcred, no ticket for the user" no "policy" heimdal kgetcred user@EXAMPLE.COM
+    try "MIT: kvno, the service" yes "kvno = 2, keytab entry valid" mit kvno -k "$work/host.keytab" "host/$host"
+
     echo "== an account that is removed"
     try "the user's account" yes "" changed remove "$work/accounts" user
     try "MIT: kvno, by the ticket-granting ticket of who was removed" no "not found in Kerberos database" mit kvno "host/$host"
@@ -256,6 +266,11 @@ by_changed_keys() {
 
 no_service() {
     "$KRB_ACCOUNTS" attributes "$work/accounts" user ends=- && changed attributes "$work/accounts" "host/$host" +no-service
+}
+
+# The realm guards passwords from now on, and the user has the next one.
+guarded_key() {
+    sed -i "/^realm	/s/\$/	guards-passwords	-/" "$work/accounts" && changed key "$work/accounts" user
 }
 
 # keep CLIENTS NAME, take CLIENTS NAME: their tickets as they are now, for later, and back.

@@ -97,6 +97,18 @@ assert all(bin(octet).count("1") % 2 == 1 for octet in next(it for it in keys if
     done
     says 0 "" add -k random accounts_without $own
     says 0 "" make accounts_without accounts.cdb
+    sed "/^realm/s/limits-des3/&,guards-passwords/" accounts >accounts_guarded
+    says 0 "realm	EXAMPLE.COM	300	36000	limits-des3	guards-passwords" list accounts_guarded
+    input="a long password" says 0 "" add accounts_guarded dora
+    says 0 "dora	aes256-cts-hmac-sha1-96	1	password	no-service" list accounts_guarded dora
+    says 0 "" attributes accounts_guarded dora -no-service
+    says 0 "attributes	-" show accounts_guarded dora
+    input="another long password" says 0 "" key --keep accounts_guarded dora
+    says 0 "2	password	older=1	no-service" list accounts_guarded dora
+    says 0 "" add -k random accounts_guarded eve
+    says 0 "attributes	-" show accounts_guarded eve
+    sed "/^realm/s/limits-des3/guards-passwords,&/" accounts >accounts_unordered
+    says 1 "words: expected some of" list accounts_unordered
     echo "$tried commands answered as they should"
 }
 commands_answer
