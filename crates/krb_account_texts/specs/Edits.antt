@@ -1,5 +1,5 @@
 -- Changes of the line of one account.
-use Rattle.std.specs.Prelude.{◌≡◌, ℕ, ◌+◌, ◌==◌, ◌&&◌, Bool, true, false, if◌then◌else◌, List, [], ◌++◌, ◌∷◌, Option, None, Some, is_some, Result, Ok, Err, refl}
+use Rattle.std.specs.Prelude.{◌≡◌, ℕ, ◌+◌, ◌==◌, ◌&&◌, not, Bool, true, false, if◌then◌else◌, List, [], ◌++◌, ◌∷◌, Option, None, Some, is_some, Result, Ok, Err, refl}
 use Rattle.std.specs.List.{position_from}
 use Rattle.picky_asn1.specs.Bytes.{Bytes}
 use Rattle.krb_messages.specs.Names.{is_same_name}
@@ -39,26 +39,31 @@ abbrev pub HasOneLess : List Bytes → List Line → List Line → Type 0
 HasOneLess name old new =
     (front : List Line) × (own : Line) × (back : List Line) × (is_line_of name own ≡ true) × (old ≡ front ++ own ∷ back) × (new ≡ front ++ back)
 
--- The realm's line has the word `guards-passwords`.
-abbrev pub is_guarding : Option RealmLine → Bool
-is_guarding None = false
-is_guarding (Some own) = own.guards_passwords
+-- The name is that of the ticket-granting service of this realm.
+abbrev pub is_krbtgt : Bytes → List Bytes → Bool
+is_krbtgt realm name = is_same_name name (krbtgt_of realm)
 
--- The realm of these lines guards passwords.
-abbrev pub guards_passwords : List Line → Bool
-guards_passwords lines = is_guarding (realm_among lines)
+-- The realm of this line guards the password of an account of this name: the line has the word `guards-passwords`, and the name isn't that of
+-- its own ticket-granting service, for which there are always tickets.
+abbrev pub is_guarding : Option RealmLine → List Bytes → Bool
+is_guarding None name = false
+is_guarding (Some own) name = own.guards_passwords && not (is_krbtgt own.name name)
 
--- The account as a realm keeps it that guards passwords or doesn't. Where it does, an account with a salt, whose key is of a password, has
+-- The realm of these lines does.
+abbrev pub guards_password : List Bytes → List Line → Bool
+guards_password name lines = is_guarding (realm_among lines) name
+
+-- The account as a realm keeps it that guards its password or doesn't. Where it does, an account with a salt, whose key is of a password, has
 -- the mark that there is no ticket for it as a service: by such a ticket its password could be guessed.
 abbrev pub guarded_account : Bool → AccountRecord → AccountRecord
 guarded_account guards own =
     if guards && is_some own.salt then record own { attributes = record own.attributes { is_no_service = true } } else own
 
--- Where no realm guards passwords, an account stays as it is.
+-- Where no realm guards its password, an account stays as it is.
 unguarded : (own : AccountRecord) → guarded_account false own ≡ own
 unguarded own = refl
 
--- The line of an account that is added to the lines of a realm that guards passwords or doesn't.
+-- The line of an account that is added to the lines of a realm that guards its password or doesn't.
 abbrev pub added_line : Bool → AccountLine → Line
 added_line guards own =
     line.Account (record { name = own.name; account = guarded_account guards own.account; is_disabled = own.is_disabled })
@@ -72,7 +77,7 @@ next_account suite key salt own = record (next_key suite key own) { salt = salt 
 abbrev pub kept_account : CipherSuite → Bytes → Option Bytes → AccountRecord → AccountRecord
 kept_account suite key salt own = record (next_account suite key salt own) { former = kept own }
 
--- The line of an account with its next key, in a realm that guards passwords or doesn't. The name stays, and whether it is disabled.
+-- The line of an account with its next key, in a realm that guards its password or doesn't. The name stays, and whether it is disabled.
 abbrev pub rekeyed : Bool → CipherSuite → Bytes → Option Bytes → Line → Line
 rekeyed guards suite key salt (line.Account own) =
     line.Account (record { name = own.name; account = guarded_account guards (next_account suite key salt own.account); is_disabled = own.is_disabled })
@@ -94,10 +99,6 @@ abbrev pub allowed_line : Attributes → Line → Line
 allowed_line attributes (line.Account own) =
     line.Account (record { name = own.name; account = record own.account { attributes = attributes }; is_disabled = own.is_disabled })
 allowed_line attributes other = other
-
--- The name is that of the ticket-granting service of this realm.
-abbrev pub is_krbtgt : Bytes → List Bytes → Bool
-is_krbtgt realm name = is_same_name name (krbtgt_of realm)
 
 -- The name is that of the ticket-granting service of the realm of this line, if there is one.
 abbrev pub is_service_of : Option RealmLine → List Bytes → Bool

@@ -3,12 +3,12 @@ ghost use Rattle.std.specs.Prelude.{◌≡◌, ◌<◌, ◌↔◌, ◌⊎◌, tr
 ghost use Rattle.std.specs.List.{insert};
 ghost use Rattle.std.specs.Option.{option_map};
 ghost use Rattle.krb_realm_accounts.specs.Accounts.{purged};
-ghost use Rattle.krb_account_texts.specs.Edits.{HasCertified, HasChanged, HasOneLess, HasOneMore, added_line, certified, guards_passwords, is_krbtgt, is_line_of, is_name_spent, is_realm, is_service_of, is_spent, allowed_line, leaving, marked, place_of, purged_line, realm_place, rekeyed, rekeyed_keeping, staying};
+ghost use Rattle.krb_account_texts.specs.Edits.{HasCertified, HasChanged, HasOneLess, HasOneMore, added_line, certified, guards_password, is_krbtgt, is_line_of, is_name_spent, is_realm, is_service_of, is_spent, allowed_line, leaving, marked, place_of, purged_line, realm_place, rekeyed, rekeyed_keeping, staying};
 ghost use Rattle.krb_account_texts.specs.Order.{place_for};
 
 use crate::line::{AccountLine, Line, RealmLine};
 use crate::order::{place_for, realm_among};
-use crate::passwords::{guarded_account, guards_passwords};
+use crate::passwords::{guarded_account, guards_password};
 use krb_crypto::Key;
 use krb_messages::{is_same_name, krbtgt};
 use krb_realm_accounts::{Account, Attributes, RealmRefusal};
@@ -77,8 +77,8 @@ fn is_line_of(line: &Line, name: &[GeneralStringAsn1]) -> bool
 /// has the mark that there is no ticket for it as a service. All other lines stay. It is refused as `Exists` if and only if the name has an
 /// account.
 pub fn add(lines: &mut Vec<Line>, account: AccountLine) -> Result<(), EditRefusal>
-    ensures ok { OnOk result (HasOneMore (added_line (guards_passwords lines.old.items) account) lines.old.items lines.new.items) }
-    ensures place { OnOk result (lines.new.items ≡ insert lines.old.items (place_for account.name.name_string.0 lines.old.items) (added_line (guards_passwords lines.old.items) account)) }
+    ensures ok { OnOk result (HasOneMore (added_line (guards_password account.name.name_string.0 lines.old.items) account) lines.old.items lines.new.items) }
+    ensures place { OnOk result (lines.new.items ≡ insert lines.old.items (place_for account.name.name_string.0 lines.old.items) (added_line (guards_password account.name.name_string.0 lines.old.items) account)) }
     ensures exists { (result ≡ Err EditRefusal.Exists) ↔ IsSome (place_of account.name.name_string.0 lines.old.items) }
     ensures new { OnOk result (place_of account.name.name_string.0 lines.old.items ≡ None) }
     ensures refusal { IfErr result (λ e. (e ≡ EditRefusal.Exists) ⊎ (e ≡ EditRefusal.Memory)) }
@@ -89,12 +89,13 @@ pub fn add(lines: &mut Vec<Line>, account: AccountLine) -> Result<(), EditRefusa
         return Err(EditRefusal::Exists);
     }
     let place = place_for(lines, name);
-    let line = added_line(guards_passwords(lines), account);
+    let guards = guards_password(lines, name);
+    let line = added_line(guards, account);
     lines.insert(place, line)?;
     Ok(())
 }
 
-// The line of an account that is added to the lines of a realm that guards passwords or doesn't.
+// The line of an account that is added to the lines of a realm that guards its password or doesn't.
 fn added_line(guards: bool, own: AccountLine) -> Line
     ensures { result ≡ added_line guards own }
 {
@@ -115,7 +116,7 @@ pub fn change_key(
     key: Key,
     salt: Option<OctetStringAsn1>,
 ) -> Result<(), EditRefusal>
-    ensures ok { OnOk result (HasChanged name.now (rekeyed (guards_passwords lines.old.items) key.suite key.bytes salt) lines.old.items lines.new.items) }
+    ensures ok { OnOk result (HasChanged name.now (rekeyed (guards_password name.now lines.old.items) key.suite key.bytes salt) lines.old.items lines.new.items) }
     ensures unknown { (result ≡ Err EditRefusal.Unknown) ↔ (place_of name.now lines.old.items ≡ None) }
     ensures spent { (result ≡ Err EditRefusal.NumberSpent) ↔ (is_name_spent name.now lines.old.items ≡ true) }
     ensures refusal { IfErr result (λ e. (e ≡ EditRefusal.Unknown) ⊎ (e ≡ EditRefusal.NumberSpent)) }
@@ -124,11 +125,11 @@ pub fn change_key(
     let Some(place) = place_of(lines, name) else {
         return Err(EditRefusal::Unknown);
     };
-    let guards = guards_passwords(lines);
+    let guards = guards_password(lines, name);
     rekey(guards, &mut lines[place], key, salt)
 }
 
-// Gives the account of a line its next key, in a realm that guards passwords or doesn't.
+// Gives the account of a line its next key, in a realm that guards its password or doesn't.
 fn rekey(
     guards: bool,
     line: &mut Line,
@@ -162,7 +163,7 @@ pub fn keep_key(
     key: Key,
     salt: Option<OctetStringAsn1>,
 ) -> Result<(), EditRefusal>
-    ensures ok { OnOk result (HasChanged name.now (rekeyed_keeping (guards_passwords lines.old.items) key.suite key.bytes salt) lines.old.items lines.new.items) }
+    ensures ok { OnOk result (HasChanged name.now (rekeyed_keeping (guards_password name.now lines.old.items) key.suite key.bytes salt) lines.old.items lines.new.items) }
     ensures unknown { (result ≡ Err EditRefusal.Unknown) ↔ (place_of name.now lines.old.items ≡ None) }
     ensures spent { (result ≡ Err EditRefusal.NumberSpent) ↔ (is_name_spent name.now lines.old.items ≡ true) }
     ensures err { OnErr result (lines.new.items ≡ lines.old.items) }
@@ -170,11 +171,11 @@ pub fn keep_key(
     let Some(place) = place_of(lines, name) else {
         return Err(EditRefusal::Unknown);
     };
-    let guards = guards_passwords(lines);
+    let guards = guards_password(lines, name);
     rekey_keeping(alloc, guards, &mut lines[place], key, salt)
 }
 
-// Gives the account of a line its next key, in a realm that guards passwords or doesn't, and keeps the keys before it.
+// Gives the account of a line its next key, in a realm that guards its password or doesn't, and keeps the keys before it.
 fn rekey_keeping(
     alloc: Global,
     guards: bool,
