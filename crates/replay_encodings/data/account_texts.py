@@ -275,14 +275,15 @@ row("off", fold(HEAD + further(TWENTIETH, "5", "6", "no-service", *older(19))), 
 row("off", fold(HEAD + ONE + KRBTGT), "krbtgt/EXAMPLE.COM", KEPT)
 row("off", fold(HEAD + ONE), "b", "no such account")
 
-# Keys of passwords, which have a salt. Where the realm guards passwords, an account that is given such a key is no service.
-def given(words, salt, kvno, fields, former):
+# Keys of passwords, which have a salt. Where the realm guards passwords, an account that is given such a key is no service, but for that of
+# its own ticket-granting service.
+def given(words, salt, kvno, fields, former, name="a"):
     """The line of an account that was given a key, which had these fields before, and keeps these keys."""
     ends, lifetime, marks, *_ = fields or ("-", "-", "-")
-    is_guarded = "guards-passwords" in words.split(",") and salt != "-"
+    is_guarded = "guards-passwords" in words.split(",") and salt != "-" and name != "krbtgt/EXAMPLE.COM"
     kept = [mark for mark in ("off", "no-service") if mark in marks.split(",") or mark == "no-service" and is_guarded]
     behind = ends, lifetime, ",".join(kept) or "-", *former
-    own = f"a\t{SUITE_OF_ONE}\t{kvno}\t{salt}\t{NEXT}\n"
+    own = f"{name}\t{SUITE_OF_ONE}\t{kvno}\t{salt}\t{NEXT}\n"
     return own if set(behind) == {"-"} else further(own, *behind)
 
 for words in "", "limits-des3,pkinit", "guards-passwords", "limits-des3,forwardable,proxiable,renewable=1,guards-passwords,pkinit":
@@ -298,6 +299,12 @@ for words in "", "limits-des3,pkinit", "guards-passwords", "limits-des3,forwarda
                     fold(head + disabled + given(words, salt, 21, fields, [OWN, *fields[3:]][:15])))
 GUARDED = HEAD.replace("\n", "\tguards-passwords\t-\n")
 row("off", fold(GUARDED + further(ONE, "-", "-", "no-service")), "a", fold(GUARDED + further(ONE, "-", "-", "off")))
+for name in "krbtgt/EXAMPLE.COM", "krbtgt/EXAMPLE.ORG", "krbtgt/EXAMPLE.COM/a", "krbtgt", "EXAMPLE.COM/krbtgt":
+    before = TWENTIETH.replace("a\t", name + "\t", 1)
+    last = name, SUITE_OF_ONE, NEXT, "7f"
+    row("add-salted", fold(GUARDED), *last, fold(GUARDED + given("guards-passwords", "7f", 1, (), (), name)))
+    row("key-salted", fold(GUARDED + before), *last, fold(GUARDED + given("guards-passwords", "7f", 21, (), (), name)))
+    row("keep-salted", fold(GUARDED + before), *last, fold(GUARDED + given("guards-passwords", "7f", 21, (), [OWN], name)))
 
 with open("account_texts.txt", "w", encoding="utf-8") as out:
     out.write("".join(row + "\n" for row in rows))
