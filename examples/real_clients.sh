@@ -250,11 +250,12 @@ by_changed_keys() {
     try "MIT: kvno, a ticket for the user" yes "kvno = 2" mit kvno user
     try "Heimdal: kgetcred, a ticket for the user" yes "" heimdal kgetcred user@EXAMPLE.COM
     try "the user's next password, where passwords are guarded" yes "" typed "$(cat "$work/new_password")" guarded_key
+    try "MIT: kvno, the service" yes "kvno = 2, keytab entry valid" mit kvno -k "$work/host.keytab" "host/$host"
     try "MIT: kinit by a guarded password" yes "" typed "$(cat "$work/new_password")" mit kinit user
     try "Heimdal: kinit by a guarded password" yes "" heimdal kinit.heimdal "--password-file=$work/new_password" user@EXAMPLE.COM
     try "MIT: kvno, no ticket for the user" no "policy" mit kvno user
-    try "Heimdal: kgetcred, no ticket for the user" no "policy" heimdal kgetcred user@EXAMPLE.COM
-    try "MIT: kvno, the service" yes "kvno = 2, keytab entry valid" mit kvno -k "$work/host.keytab" "host/$host"
+    # After error 12 it asks for a referral, and says that the name is none of a service.
+    try "Heimdal: kgetcred, no ticket for the user" no "too short to do referals" heimdal kgetcred user@EXAMPLE.COM
 
     echo "== an account that is removed"
     try "the user's account" yes "" changed remove "$work/accounts" user
