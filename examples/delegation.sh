@@ -147,10 +147,20 @@ far_is_empty() {
     [ "$(far yes whoami)" = alice ] && far yes klist
 }
 
+# At a realm of this repository, its key changes: tickets from before stay good.
+rotated() {
+    [ "$kdc" != realm ] || try "the realm's next key" yes "" next_key
+}
+
+next_key() {
+    "$KRB_ACCOUNTS" key -k random "$work/accounts" krbtgt/EXAMPLE.COM && "$KRB_ACCOUNTS" make "$work/accounts" "$work/accounts.cdb"
+}
+
 # steps FLAGS: logins are delegated. What a forwarded ticket has as flags is given.
 steps() {
     try "kinit -f -r 7d" yes "" typed "$password" kinit -f -r 7d alice
     try "klist" yes "Flags: FRIA\$" klist -f
+    rotated
     try "ssh, without delegation" yes "^alice\$" far no whoami
     try "  no ticket is there" no "No credentials cache found" far no klist
     try "ssh, with delegation: klist there" yes "Flags: $1\$" far yes "klist -f"
