@@ -38,7 +38,6 @@ need kvno krb5-user
 case " $* " in
     *" realm "* | *" heimdal "*)
         fetch_heimdal kinit.heimdal heimdal-clients heimdal-kdc
-        heimdal_kdc=$(ls "$heimdal_folder/usr/lib/heimdal-servers/kdc" /usr/lib/heimdal-servers/kdc 2>/dev/null | head -n 1)
         ;;
 esac
 
@@ -191,39 +190,6 @@ mit_rows() {
     mit kadmin.local -q "modprinc -maxrenewlife 7d krbtgt/EXAMPLE.COM" >>"$work/log" 2>&1
     mit_clients FPRIA "FPRAT renewable" FPRIAT
     logins FPRIA FPRIAT
-}
-
-start_heimdal() {
-    cat >"$work/heimdal.in" <<CONF
-[kdc]
-    database = {
-        dbname = $work/heimdal_db
-        realm = EXAMPLE.COM
-        mkey_file = $work/mkey
-        log_file = $work/heimdal_changes
-        acl_file = $work/acl
-    }
-    enable-pkinit = no
-    require-preauth = no
-[logging]
-    default = FILE:$work/heimdal.log
-CONF
-    configuration tcp/127.0.0.1:PORT "" >>"$work/heimdal.in"
-    cp "$work/heimdal.in" "$work/heimdal.conf"
-    kadmin_heimdal init --realm-max-ticket-life=10h --realm-max-renewable-life=7d EXAMPLE.COM >"$work/log" 2>&1
-    cat >"$work/start" <<START
-#!/bin/sh
-sed "s/PORT/\$1/" $work/heimdal.in >$work/heimdal.conf
-sed "s/PORT/\$1/; s|tcp/||" $work/heimdal.in >$work/mit.conf
-LD_LIBRARY_PATH=$libraries exec $heimdal_kdc --config-file=$work/heimdal.conf --ports=\$1/tcp --addresses=127.0.0.1
-START
-    chmod +x "$work/start"
-    listen "$work/start" PORT
-    bridge=$started
-}
-
-kadmin_heimdal() {
-    heimdal kadmin.heimdal -l "--config-file=$work/heimdal.conf" "$@"
 }
 
 heimdal_rows() {
