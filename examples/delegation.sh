@@ -1,10 +1,10 @@
 #!/bin/sh
-# Logins are delegated to stock services: delegation.sh [realm|mit|heimdal ..], at krb_kdcd, at MIT's krb5kdc and at
-# Heimdal's kdc, or at those that are named.
-# OpenSSH forwards a user's ticket to sshd, and curl to Apache with mod_auth_gssapi. There klist shows the ticket's flags, and kvno gets
-# a ticket for a service by it. From sshd it is forwarded once more, and renewed there. The tickets are those of kinit of MIT and Heimdal,
-# and of krb_login. Without the option, with a ticket that isn't forwardable, or in a realm whose policy grants none, a user is logged in and
-# nothing is delegated. Prints what each step gave; the status is 1 where one differs from what it should, and 2 where a program is missing.
+# Logins are delegated to stock services: delegation.sh [realm|mit|heimdal ..], at krb_kdcd, at MIT's krb5kdc and at Heimdal's kdc, or at
+# those that are named. OpenSSH forwards a user's ticket to sshd, and curl to Apache with mod_auth_gssapi. There klist shows the ticket's
+# flags, and kvno gets a ticket for a service by it. From sshd it is forwarded once more, and renewed there. The tickets are those of
+# kinit of MIT and Heimdal, and of krb_login. Without the option, with a ticket that isn't forwardable, or in a realm whose policy grants
+# none, a user is logged in and nothing is delegated. Prints what each step gave; the status is 1 where one differs from what it should,
+# and 2 where a program is missing.
 #
 # It runs as root, in namespaces of its own: with a copy of /etc, a network of its own, and folders of the services that are empty. So
 # nothing of this machine changes. KRB_KDCD, KRB_ACCOUNTS and KRB_LOGIN may name programs that are built already. HEIMDAL is as in
