@@ -87,7 +87,7 @@ gss: ## log in to the example acceptor with MIT's gss-client, step by step
 services: ## log in to sshd, Samba, OpenLDAP, PostgreSQL, Apache, Dovecot, SSSD and Java by tickets of krb_kdcd, as root, step by step
 	examples/stock_services.sh
 
-delegation: ## delegate logins to sshd and Apache by tickets of krb_kdcd and of MIT's krb5kdc, as root, step by step
+delegation: ## delegate logins to sshd and Apache by tickets of krb_kdcd, MIT's krb5kdc and Heimdal's kdc, as root, step by step
 	examples/delegation.sh
 
 initiator: ## log in with the example initiator at stock acceptors of MIT and Heimdal, and at Apache, step by step

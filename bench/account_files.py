@@ -7,14 +7,19 @@ import array, collections, struct, sys
 
 TABLES, PAIR = 256, 8  # hash tables of a file; octets of a pointer, of a slot, and of a record's two lengths
 VERSION = 1
-ROOM = 4_400  # octets of a record, at most
+ROOM = 8_192  # octets of a record, at most
 BLOCK = 4_096  # octets of a name's block, at most
 REALM_KEY = b"\xff"
 KEY_SIZES = {16: 24, 17: 16, 18: 32, 19: 16, 20: 32}  # by the numbers of the suites
 SKEW_LIMIT, LIFETIME_LIMIT = 86_400, 31_536_000
 RENEWABLE_SECOND, PKINIT_SHA1 = 16, 2**29  # what a policy's number has for each second of the renewable life, and behind all of them
 
-Account = collections.namedtuple("Account", "suite key kvno salt")  # salt: octets or None
+SALT, OLDER_KEYS, ATTRIBUTES = 1, 2, 4  # marks: what a record has behind its key
+FORMER_LIMIT = 15
+OFF, MUST_CHANGE, NO_SERVICE = 1, 2, 4  # marks of attributes
+
+Attributes = collections.namedtuple("Attributes", "ends lifetime marks", defaults=[0, 0, 0])  # ends: a second since year 0
+Account = collections.namedtuple("Account", "suite key kvno salt attributes older", defaults=[Attributes(), ()])  # salt: octets or None
 Realm = collections.namedtuple("Realm", "name skew lifetime policy", defaults=[0])  # policy: its number
 
 
@@ -28,8 +33,12 @@ def block(name):
 
 
 def account_record(account):
-    front = struct.pack("<BBIB", VERSION, account.suite, account.kvno, account.salt is not None)
-    return front + account.key + (account.salt or b"")
+    has_attributes = account.attributes != Attributes()
+    marks = SALT * (account.salt is not None) + OLDER_KEYS * bool(account.older) + ATTRIBUTES * has_attributes
+    further = struct.pack("<QIB", *account.attributes) if has_attributes else b""
+    if account.older:
+        further += bytes([len(account.older)]) + b"".join(struct.pack("<BI", suite, kvno) + key for suite, kvno, key in account.older)
+    return struct.pack("<BBIB", VERSION, account.suite, account.kvno, marks) + account.key + further + (account.salt or b"")
 
 
 def realm_record(realm):
@@ -132,12 +141,41 @@ class File:
 def account_in(data):
     if len(data) < 7:
         raise Damaged
-    version, suite, kvno, flag = struct.unpack("<BBIB", data[:7])
+    version, suite, kvno, marks = struct.unpack("<BBIB", data[:7])
     size = KEY_SIZES.get(suite, len(data))
-    key, salt = data[7 : 7 + size], data[7 + size :]
-    if version != VERSION or kvno == 0 or len(key) < size or flag > 1 or (salt and not flag):
+    key, further = data[7 : 7 + size], data[7 + size :]
+    if version != VERSION or kvno == 0 or len(key) < size or marks > SALT + OLDER_KEYS + ATTRIBUTES:
         raise Damaged
-    return Account(suite, key, kvno, salt if flag else None)
+    attributes, further = attributes_in(further) if marks & ATTRIBUTES else (Attributes(), further)
+    older, salt = older_in(kvno, further) if marks & OLDER_KEYS else ((), further)
+    if salt and not marks & SALT:
+        raise Damaged
+    return Account(suite, key, kvno, salt if marks & SALT else None, attributes, older)
+
+
+def attributes_in(octets):
+    """The attributes in front, and what is behind them."""
+    if len(octets) < 13 or octets[12] > OFF + MUST_CHANGE + NO_SERVICE:
+        raise Damaged
+    return Attributes(*struct.unpack("<QIB", octets[:13])), octets[13:]
+
+
+def older_in(below, octets):
+    """The older keys in front, whose kvnos fall, and what is behind them."""
+    keys = []
+    if not octets or not 1 <= octets[0] <= FORMER_LIMIT:
+        raise Damaged
+    count, octets = octets[0], octets[1:]
+    for _ in range(count):
+        if len(octets) < 5 or octets[0] not in KEY_SIZES:
+            raise Damaged
+        suite, kvno = struct.unpack("<BI", octets[:5])
+        size = 5 + KEY_SIZES[suite]
+        if not 1 <= kvno < below or len(octets) < size:
+            raise Damaged
+        keys.append((suite, kvno, octets[5:size]))
+        below, octets = kvno, octets[size:]
+    return tuple(keys), octets
 
 
 def realm_in(data):

@@ -1,9 +1,10 @@
 #!/bin/sh
-# Logins are delegated to stock services: delegation.sh [realm|mit ..], at krb_kdcd and at MIT's krb5kdc, or at the one that is named.
-# OpenSSH forwards a user's ticket to sshd, and curl to Apache with mod_auth_gssapi. There klist shows the ticket's flags, and kvno gets
-# a ticket for a service by it. From sshd it is forwarded once more, and renewed there. The tickets are those of kinit of MIT and Heimdal,
-# and of krb_login. Without the option, with a ticket that isn't forwardable, or in a realm whose policy grants none, a user is logged in and
-# nothing is delegated. Prints what each step gave; the status is 1 where one differs from what it should, and 2 where a program is missing.
+# Logins are delegated to stock services: delegation.sh [realm|mit|heimdal ..], at krb_kdcd, at MIT's krb5kdc and at Heimdal's kdc, or at
+# those that are named. OpenSSH forwards a user's ticket to sshd, and curl to Apache with mod_auth_gssapi. There klist shows the ticket's
+# flags, and kvno gets a ticket for a service by it. From sshd it is forwarded once more, and renewed there. The tickets are those of
+# kinit of MIT and Heimdal, and of krb_login. Without the option, with a ticket that isn't forwardable, or in a realm whose policy grants
+# none, a user is logged in and nothing is delegated. Prints what each step gave; the status is 1 where one differs from what it should,
+# and 2 where a program is missing.
 #
 # It runs as root, in namespaces of its own: with a copy of /etc, a network of its own, and folders of the services that are empty. So
 # nothing of this machine changes. KRB_KDCD, KRB_ACCOUNTS and KRB_LOGIN may name programs that are built already. HEIMDAL is as in
@@ -15,13 +16,14 @@ top=$(cd "$(dirname "$0")/.." && pwd)
 . "$top/examples/stock.sh"
 . "$top/bench/programs.sh"
 PATH=$PATH:/usr/sbin:/sbin
-[ $# -gt 0 ] || set -- realm mit
+[ $# -gt 0 ] || set -- realm mit heimdal
 if [ -z "${DELEGATION_ROOM:-}" ]; then
     for kdc in "$@"; do
         case $kdc in
         realm) program KRB_KDCD krb_kdcd; program KRB_ACCOUNTS krb_accounts ;;
         mit) need krb5kdc krb5-kdc; need kadmin.local krb5-admin-server ;;
-        *) echo "$script: $kdc: expected realm or mit" >&2 && exit 2 ;;
+        heimdal) ;;
+        *) echo "$script: $kdc: expected realm, mit or heimdal" >&2 && exit 2 ;;
         esac
     done
     need kinit krb5-user
@@ -36,7 +38,7 @@ if [ -z "${DELEGATION_ROOM:-}" ]; then
     DELEGATION_ROOM=$(mktemp -d) work=$DELEGATION_ROOM
     trap 'rm -rf "$DELEGATION_ROOM"' EXIT
     # The network of the namespace reaches no archive.
-    fetch_heimdal kinit.heimdal heimdal-clients
+    fetch_heimdal kinit.heimdal heimdal-clients heimdal-kdc
     HEIMDAL=$heimdal_folder
     export DELEGATION_ROOM HEIMDAL
     unshare --mount --net --uts --ipc --pid --fork --mount-proc --propagation private "$0" "$@"
@@ -45,7 +47,7 @@ fi
 work=$DELEGATION_ROOM HOME=$DELEGATION_ROOM KRB5CCNAME=FILE:$DELEGATION_ROOM/mit.tickets
 export HOME KRB5CCNAME
 unset KRB5_CONFIG
-fetch_heimdal kinit.heimdal heimdal-clients
+fetch_heimdal kinit.heimdal heimdal-clients heimdal-kdc
 week=604800
 
 # empty FOLDER..: hides what a folder has.
@@ -147,10 +149,20 @@ far_is_empty() {
     [ "$(far yes whoami)" = alice ] && far yes klist
 }
 
+# At a realm of this repository, its key changes: tickets from before stay good.
+rotated() {
+    [ "$kdc" != realm ] || try "the realm's next key" yes "" next_key
+}
+
+next_key() {
+    "$KRB_ACCOUNTS" key -k random "$work/accounts" krbtgt/EXAMPLE.COM && "$KRB_ACCOUNTS" make "$work/accounts" "$work/accounts.cdb"
+}
+
 # steps FLAGS: logins are delegated. What a forwarded ticket has as flags is given.
 steps() {
     try "kinit -f -r 7d" yes "" typed "$password" kinit -f -r 7d alice
     try "klist" yes "Flags: FRIA\$" klist -f
+    rotated
     try "ssh, without delegation" yes "^alice\$" far no whoami
     try "  no ticket is there" no "No credentials cache found" far no klist
     try "ssh, with delegation: klist there" yes "Flags: $1\$" far yes "klist -f"
@@ -235,6 +247,21 @@ mit_steps() {
     } >>"$work/log" 2>&1
     cp "$work/mit.conf" /etc/krb5.conf
     configuration "tcp/127.0.0.1:$port" "" >"$work/heimdal.conf"
+    start_services
+    steps FfRAT
+}
+
+heimdal_steps() {
+    start_heimdal
+    kdc_port=$port
+    {
+        kadmin_heimdal add "--password=$password" --attributes=requires-pre-auth --use-defaults alice
+        rm -f /etc/krb5.keytab /etc/apache2/http.keytab
+        for service in host HTTP; do kadmin_heimdal add --random-key --use-defaults "$service/$host"; done
+        kadmin_heimdal ext_keytab --keytab=/etc/krb5.keytab "host/$host"
+        kadmin_heimdal ext_keytab --keytab=/etc/apache2/http.keytab "HTTP/$host"
+    } >>"$work/log" 2>&1
+    cp "$work/mit.conf" /etc/krb5.conf
     start_services
     steps FfRAT
 }

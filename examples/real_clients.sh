@@ -8,7 +8,8 @@
 # Usage: examples/real_clients.sh [socat|tcp|udp..]. All of this is done three times, or in the ways that are named:
 #   socat     krb_realm behind socat
 #   tcp, udp  krb_kdcd behind krb_listen, over this protocol, with a database that krb_accounts makes of the settings. Then keys of the
-#             service, of the user and of the realm are changed, and an account is removed, while the listener stays.
+#             service, of the user and of the realm are changed, attributes are set, and an account is removed, while the
+#             listener stays.
 # KRB_REALMD, KRB_KDCD and KRB_ACCOUNTS may name programs that are built already.
 #
 # Heimdal's clients are those on the path (Debian: heimdal-clients), or those unpacked in the folder HEIMDAL, or else they are
@@ -208,8 +209,13 @@ by_changed_keys() {
     try "MIT: gss-client, by the ticket that it has" yes "Signature verified" gss mit
     take mit granting
     take heimdal granting
-    try "MIT: kvno, by a ticket-granting ticket from before" no "Key version is not available" mit kvno "host/$host"
-    try "Heimdal: kgetcred, by a ticket-granting ticket from before" no "Key version is not available" heimdal kgetcred "host/$host@EXAMPLE.COM"
+    try "MIT: kvno, by a ticket-granting ticket from before" yes "kvno = 2, keytab entry valid" mit kvno -k "$work/host.keytab" "host/$host"
+    try "Heimdal: kgetcred, by a ticket-granting ticket from before" yes "" heimdal kgetcred "host/$host@EXAMPLE.COM"
+    try "the realm's keys before are taken away" yes "" changed purge "$work/accounts" krbtgt/EXAMPLE.COM
+    take mit granting
+    take heimdal granting
+    try "MIT: kvno, by a ticket-granting ticket under a key that was taken away" no "Key version is not available" mit kvno "host/$host"
+    try "Heimdal: kgetcred, by one under a key that was taken away" no "Key version is not available" heimdal kgetcred "host/$host@EXAMPLE.COM"
     try "MIT: kinit by password" yes "" typed "$password" mit kinit user
     try "MIT: kvno" yes "kvno = 2, keytab entry valid" mit kvno -k "$work/host.keytab" "host/$host"
     try "Heimdal: kinit by password" yes "" heimdal kinit.heimdal "--password-file=$work/password" user@EXAMPLE.COM
@@ -223,12 +229,49 @@ by_changed_keys() {
     try "MIT: kinit by password" yes "" typed "$(cat "$work/new_password")" mit kinit user
     try "Heimdal: kinit by password" yes "" heimdal kinit.heimdal "--password-file=$work/new_password" user@EXAMPLE.COM
 
+    echo "== attributes"
+    try "the user is switched off" yes "" changed attributes "$work/accounts" user +off
+    try "MIT: kinit of who is switched off" no "revoked" typed "$(cat "$work/new_password")" mit kinit user
+    try "Heimdal: kinit of who is switched off" no "revoked" heimdal kinit.heimdal "--password-file=$work/new_password" user@EXAMPLE.COM
+    try "MIT: kvno, by the ticket-granting ticket of who is switched off" no "revoked" mit kvno "host/$host"
+    try "Heimdal: kgetcred, by that of who is switched off" no "revoked" heimdal kgetcred "host/$host@EXAMPLE.COM"
+    try "the user has ended" yes "" changed attributes "$work/accounts" user -off ends=20200101000000Z
+    try "MIT: kinit of who has ended" no "expired" typed "$(cat "$work/new_password")" mit kinit user
+    try "Heimdal: kinit of who has ended" no "expired" heimdal kinit.heimdal "--password-file=$work/new_password" user@EXAMPLE.COM
+    try "the user doesn't end, and the service is none" yes "" no_service
+    try "MIT: kvno, no service" no "policy" mit kvno "host/$host"
+    try "Heimdal: kgetcred, no service" no "policy" heimdal kgetcred "host/$host@EXAMPLE.COM"
+    try "the service is one again" yes "" changed attributes "$work/accounts" "host/$host" -no-service
+    try "MIT: kvno, as before" yes "kvno = 2, keytab entry valid" mit kvno -k "$work/host.keytab" "host/$host"
+    try "MIT: kinit by password, as before" yes "" typed "$(cat "$work/new_password")" mit kinit user
+    try "Heimdal: kinit by password, as before" yes "" heimdal kinit.heimdal "--password-file=$work/new_password" user@EXAMPLE.COM
+
+    echo "== guarded passwords"
+    try "MIT: kvno, a ticket for the user" yes "kvno = 2" mit kvno user
+    try "Heimdal: kgetcred, a ticket for the user" yes "" heimdal kgetcred user@EXAMPLE.COM
+    try "the user's next password, where passwords are guarded" yes "" typed "$(cat "$work/new_password")" guarded_key
+    try "MIT: kvno, the service" yes "kvno = 2, keytab entry valid" mit kvno -k "$work/host.keytab" "host/$host"
+    try "MIT: kinit by a guarded password" yes "" typed "$(cat "$work/new_password")" mit kinit user
+    try "Heimdal: kinit by a guarded password" yes "" heimdal kinit.heimdal "--password-file=$work/new_password" user@EXAMPLE.COM
+    try "MIT: kvno, no ticket for the user" no "policy" mit kvno user
+    # After error 12 it asks for a referral, and says that the name is none of a service.
+    try "Heimdal: kgetcred, no ticket for the user" no "too short to do referals" heimdal kgetcred user@EXAMPLE.COM
+
     echo "== an account that is removed"
     try "the user's account" yes "" changed remove "$work/accounts" user
     try "MIT: kvno, by the ticket-granting ticket of who was removed" no "not found in Kerberos database" mit kvno "host/$host"
     try "Heimdal: kgetcred, by that of who was removed" no "unknown" heimdal kgetcred "host/$host@EXAMPLE.COM"
     try "MIT: kinit" no "not found in Kerberos database" typed "$password" mit kinit user
     try "Heimdal: kinit" no "unknown" heimdal kinit.heimdal "--password-file=$work/new_password" user@EXAMPLE.COM
+}
+
+no_service() {
+    "$KRB_ACCOUNTS" attributes "$work/accounts" user ends=- && changed attributes "$work/accounts" "host/$host" +no-service
+}
+
+# The realm guards passwords from now on, and the user has the next one.
+guarded_key() {
+    sed -i "/^realm	/s/\$/	guards-passwords	-/" "$work/accounts" && changed key "$work/accounts" user
 }
 
 # keep CLIENTS NAME, take CLIENTS NAME: their tickets as they are now, for later, and back.

@@ -174,6 +174,42 @@ START
     bridge=$started
 }
 
+# Heimdal's kdc over TCP, with a database of its own in the temporary folder, by the programs that fetch_heimdal found; heimdal runs one of
+# them. Sets started, port and bridge, and writes heimdal.conf and mit.conf.
+start_heimdal() {
+    heimdal_kdc=$(ls "$heimdal_folder/usr/lib/heimdal-servers/kdc" /usr/lib/heimdal-servers/kdc 2>/dev/null | head -n 1)
+    cat >"$work/heimdal.in" <<CONF
+[kdc]
+    database = {
+        dbname = $work/heimdal_db
+        realm = EXAMPLE.COM
+        mkey_file = $work/mkey
+        log_file = $work/heimdal_changes
+        acl_file = $work/acl
+    }
+    enable-pkinit = no
+    require-preauth = no
+[logging]
+    default = FILE:$work/heimdal.log
+CONF
+    configuration tcp/127.0.0.1:PORT "" >>"$work/heimdal.in"
+    cp "$work/heimdal.in" "$work/heimdal.conf"
+    kadmin_heimdal init --realm-max-ticket-life=10h --realm-max-renewable-life=7d EXAMPLE.COM >"$work/log" 2>&1
+    cat >"$work/start" <<START
+#!/bin/sh
+sed "s/PORT/\$1/" $work/heimdal.in >$work/heimdal.conf
+sed "s/PORT/\$1/; s|tcp/||" $work/heimdal.in >$work/mit.conf
+LD_LIBRARY_PATH=$libraries exec $heimdal_kdc --config-file=$work/heimdal.conf --ports=\$1/tcp --addresses=127.0.0.1
+START
+    chmod +x "$work/start"
+    listen "$work/start" PORT
+    bridge=$started
+}
+
+kadmin_heimdal() {
+    heimdal kadmin.heimdal -l "--config-file=$work/heimdal.conf" "$@"
+}
+
 # fetch_heimdal COMMAND PACKAGE..: Heimdal's programs are those on the path, if COMMAND is among them, or those unpacked in the folder
 # HEIMDAL, or else the packages are downloaded by apt-get and unpacked in the temporary folder; sets heimdal_folder, libraries and PATH.
 fetch_heimdal() {

@@ -26,9 +26,9 @@ def keytab(*records):
     return b"\5\2" + b"".join(records)
 
 
-def princ(name, flags=0, expiry=0, password_expiry=0, realm="R"):
+def princ(name, flags=0, expiry=0, password_expiry=0, realm="R", lifetime=86400):
     """A principal's line of a dump, as kdb5_util writes it, with no lists."""
-    return f"princ\t38\t{len(name) + 2}\t0\t0\t0\t{name}@{realm}\t{flags}\t86400\t0\t{expiry}\t{password_expiry}\t0\t0\t0\t\n".encode()
+    return f"princ\t38\t{len(name) + 2}\t0\t0\t0\t{name}@{realm}\t{flags}\t{lifetime}\t0\t{expiry}\t{password_expiry}\t0\t0\t0\t\n".encode()
 
 
 def key(number, size=32):
@@ -70,11 +70,28 @@ class MitAccounts(unittest.TestCase):
     def test_line(self):
         self.assertEqual(self.made(record((b"a",), 2, 18, key(1))), ["a\taes256-cts-hmac-sha1-96\t2\t-\t" + "01" * 32])
 
-    def test_newest_kvno_in_any_order(self):
-        for old, new in (((1, 1), (2, 2)), ((2, 2), (1, 1))):
+    def test_older_keys_in_any_order(self):
+        for first, second in (((1, 1), (2, 2)), ((2, 2), (1, 1))):
             os.path.exists(self.text) and os.unlink(self.text)
-            lines = self.made(*(record((b"a",), kvno, 18, key(number)) for kvno, number in (old, new)))
-            self.assertEqual(lines, ["a\taes256-cts-hmac-sha1-96\t2\t-\t" + "02" * 32])
+            lines = self.made(*(record((b"a",), kvno, 18, key(number)) for kvno, number in (first, second)))
+            suite = "aes256-cts-hmac-sha1-96"
+            self.assertEqual(lines, [f"a\t{suite}\t2\t-\t{'02' * 32}\t-\t-\t-\t{suite}:1:{'01' * 32}"])
+
+    def test_older_keys_that_are_lost(self):
+        lines = self.made(*(record((b"a",), kvno, 18, key(kvno)) for kvno in range(1, 21)))
+        self.assertEqual([field.split(":")[1] for field in lines[0].split("\t")[8:]], [str(kvno) for kvno in range(19, 4, -1)])
+        os.unlink(self.text)
+        lines = self.made(record((b"a",), 1, 18, key(1)), record((b"a",), 2, 23, key(2, 16)), record((b"a",), 3, 17, key(3, 16)))
+        self.assertEqual(lines[0].split("\t")[8:], ["aes256-cts-hmac-sha1-96:1:" + "01" * 32])
+
+    def test_attributes(self):
+        dump = DUMP + princ("krbtgt/R", 0x1000, 4070908800, lifetime=60)
+        dump += princ("a", 0x1000, 4070908800, lifetime=35999) + princ("b", lifetime=36000) + princ("c", 0x41, lifetime=3600)
+        told = "mit_accounts: c is locked (DISALLOW_ALL_TIX): disabled\n"
+        lines = [line.split("\t") for line in self.made(*(record((name,), 1, 18, key(1)) for name in (b"a", b"b", b"c")), dump=dump, told=told)]
+        self.assertEqual([lines[0][5:], lines[1][5:], lines[2][6:]], [["4070908800", "35999", "no-service"], [], ["-", "3600", "-"]])
+        with open(self.text, encoding="ascii") as file:
+            self.assertEqual([len(line.split("\t")) for line in file if line.startswith("krbtgt")], [5])
 
     def test_first_known_suite_of_a_kvno(self):
         keys = record((b"a",), 1, 23, key(1, 16)), record((b"a",), 1, 17, key(2, 16)), record((b"a",), 1, 18, key(3))

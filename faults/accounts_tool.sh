@@ -44,7 +44,11 @@ commands_answer() {
     says 1 "$own: the realm's key is made of no password" key accounts $own
     says 1 "$own: the account is there already" add -k random accounts $own
     says 0 "" key -k random accounts $own
-    says 0 "$own	aes256-cts-hmac-sha1-96	2	key" list accounts
+    says 0 "$own	aes256-cts-hmac-sha1-96	2	key	older=1" list accounts
+    says 0 "older keys	1" show accounts $own
+    says 1 "$own: the account of the ticket-granting service is kept" attributes accounts $own +off
+    says 0 "" purge accounts $own
+    says 0 "older keys	-" show accounts $own
     for suite in aes128-cts-hmac-sha1-96 aes256-cts-hmac-sha1-96 des3-cbc-sha1-kd aes128-cts-hmac-sha256-128 aes256-cts-hmac-sha384-192; do
         says 0 "" add -e $suite -k random accounts $suite
     done
@@ -59,7 +63,17 @@ assert all(bin(octet).count("1") % 2 == 1 for octet in next(it for it in keys if
     [ "$("$tool" list accounts 'a?ice*' | wc -l)" = 1 ] || { echo "accounts_tool: list with a pattern" >&2; exit 1; }
     says 0 "salt	4558414d504c452e434f4d616c69636561646d696e" show accounts alice/admin
     says 1 "nobody: no such account" show accounts nobody
-    for command in remove disable enable key; do says 1 "nobody: no such account" $command accounts nobody; done
+    for command in remove disable enable key purge; do says 1 "nobody: no such account" $command accounts nobody; done
+    says 1 "nobody: no such account" attributes accounts nobody +off
+    for word in +none off ends=2030 lifetime=0; do says 1 ": expected " attributes accounts alice/admin $word; done
+    says 0 "" attributes accounts alice/admin ends=20301231235959Z lifetime=3600 +off +no-service -off
+    says 0 "	lifetime=3600	no-service" list accounts 'alice/*'
+    says 0 "attributes	no-service" show accounts alice/admin
+    says 0 "" attributes accounts alice/admin ends=- lifetime=- -no-service
+    input="another long password" says 0 "" key --keep accounts alice/admin
+    says 0 "alice/admin	aes256-cts-hmac-sha1-96	2	password	older=1" list accounts 'alice/*'
+    input="a third long password" says 0 "" key accounts alice/admin
+    says 0 "older keys	-" show accounts alice/admin
     says 0 "" disable accounts alice/admin
     says 0 "password	disabled" list accounts 'alice/*'
     says 1 "alice/admin: the account is there already" add accounts alice/admin
@@ -83,6 +97,18 @@ assert all(bin(octet).count("1") % 2 == 1 for octet in next(it for it in keys if
     done
     says 0 "" add -k random accounts_without $own
     says 0 "" make accounts_without accounts.cdb
+    sed "/^realm/s/limits-des3/&,guards-passwords/" accounts >accounts_guarded
+    says 0 "realm	EXAMPLE.COM	300	36000	limits-des3	guards-passwords" list accounts_guarded
+    input="a long password" says 0 "" add accounts_guarded dora
+    says 0 "dora	aes256-cts-hmac-sha1-96	1	password	no-service" list accounts_guarded dora
+    says 0 "" attributes accounts_guarded dora -no-service
+    says 0 "attributes	-" show accounts_guarded dora
+    input="another long password" says 0 "" key --keep accounts_guarded dora
+    says 0 "2	password	older=1	no-service" list accounts_guarded dora
+    says 0 "" add -k random accounts_guarded eve
+    says 0 "attributes	-" show accounts_guarded eve
+    sed "/^realm/s/limits-des3/guards-passwords,&/" accounts >accounts_unordered
+    says 1 "words: expected some of" list accounts_unordered
     echo "$tried commands answered as they should"
 }
 commands_answer
@@ -130,6 +156,7 @@ refused_by_disk() {
 
 killed_at_each_call accounts add -k accounts one_more
 killed_at_each_call accounts key -k accounts user
+killed_at_each_call accounts attributes accounts user +off
 killed_at_each_call accounts remove accounts user
 killed_at_each_call accounts.cdb make accounts accounts.cdb
 

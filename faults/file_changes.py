@@ -83,6 +83,7 @@ def follow(database, requests):
 REFUSAL = "is no realm's database, or damaged: expected one as krb_accounts makes it, replaced whole by rename"
 NAMES = b"abz"  # clients: with preauthentication and without, of another suite, and one that has no account
 GRANTING = (b"krbtgt", b"R")
+EPOCH = 62_167_219_200  # the second 1970-01-01 00:00:00, counted from year 0
 CLOCKS = 60  # seconds within which it isn't decided here whether a clock is too far off
 
 
@@ -114,6 +115,9 @@ def expected(file, realm, client, request, key, age):
         return [("error", 68)]
     if own is None or service is None:
         return [("error", 6 if own is None else 7)]
+    refused = refused_by_attributes(own, service)
+    if refused:
+        return [("error", refused)]
     if own.suite not in replies.etypes(request):
         return [("error", 14)]
     if 0xA3 not in dict(replies.elements(replies.within(request, replies.AS_REQ, 0x30))):
@@ -124,6 +128,20 @@ def expected(file, realm, client, request, key, age):
     granted = ("ticket", service.suite, service.kvno, own.suite, own.kvno)
     near, far = age - CLOCKS < realm.skew, age + CLOCKS > realm.skew
     return [granted] * near + [("error", 37)] * far
+
+
+def refused_by_attributes(own, service):
+    """The error by which attributes of the client and of the service refuse a first ticket, or nothing."""
+    now = EPOCH + int(time.time())
+    rows = (
+        (0 < own.attributes.ends < now, 1),
+        (0 < service.attributes.ends < now, 2),
+        (own.attributes.marks & account_files.MUST_CHANGE, 23),
+        (own.attributes.marks & account_files.OFF, 18),
+        (service.attributes.marks & account_files.OFF, 7),
+        (service.attributes.marks & account_files.NO_SERVICE, 12),
+    )
+    return next((code for refuses, code in rows if refuses), None)
 
 
 def outcome_by_reader(octets, requests, key, age):

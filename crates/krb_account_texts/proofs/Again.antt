@@ -1,13 +1,12 @@
 -- What is written of a line is read as that line.
-use Rattle.std.proofs.Common.{◌≡◌, inl, inr, cond, ℕ, zero, suc, ◌/◌, ◌<◌, ◌≤◌, ◌^◌, ◌==◌, ◌&&◌, nat_eq, nat_le, not, Bool, true, false, List, [], ◌∷◌, ◌++◌, length, slice_index, codes, Option, None, Some, is_some, Result, Ok, IsTrue, refl, ap, sym, subst, ◌∙◌, arith}
+use Rattle.std.proofs.Common.{◌≡◌, inl, inr, cond, ℕ, zero, suc, ◌+◌, ◌/◌, ◌<◌, ◌≤◌, ◌^◌, ◌==◌, ◌&&◌, ◌||◌, nat_eq, nat_le, not, Bool, true, false, List, [], ◌∷◌, ◌++◌, length, map, slice_index, codes, Option, None, Some, is_some, Result, Ok, IsTrue, refl, ap, sym, subst, ◌∙◌, arith}
 use Rattle.std.specs.List.{list_all}
 use Rattle.std.specs.Option.{option_map}
 use Rattle.std.proofs.lemmas.List.{append-nil}
 use Rattle.std.specs.Fmt.{decimal}
-use Rattle.std.specs.Cmp.Lexicographic.{pointwise}
-use Rattle.std.proofs.lemmas.Bool.{and_parts, ltb-true}
+use Rattle.std.proofs.lemmas.Bool.{and_parts}
 use Rattle.std.proofs.lemmas.Bool.Decides.{eqb_tells, nat_tests}
-use Rattle.hex.specs.Hex.{IsBytes, encode_lower, encode_with, lower_digits}
+use Rattle.hex.specs.Hex.{encode_lower}
 use Rattle.hex.proofs.HexLemmas.{decode_of-encode_lower}
 use Rattle.picky_asn1.specs.Bytes.{Bytes}
 use Rattle.krb_messages.specs.NameText.{name_text}
@@ -18,18 +17,20 @@ use Rattle.krb_realm_accounts.specs.Names.{AreComponents, is_realm_name}
 use Rattle.krb_realm_accounts.specs.Settings.{SettingsRecord}
 use Rattle.krb_realm_accounts.specs.declared.policy.Policy.{Policy}
 use Rattle.krb_realm_accounts.specs.declared.policy.TheConstants.{NO_POLICY}
-use Rattle.krb_crypto.specs.Suites.{cipher_key_size}
-use Rattle.krb_crypto.specs.declared.suite.CipherSuite.{CipherSuite}
-use Rattle.krb_crypto.specs.declared.suite.CipherSuite.TheVariants.{Aes128CtsHmacSha196, Aes256CtsHmacSha196, Des3CbcSha1Kd, Aes128CtsHmacSha256128, Aes256CtsHmacSha384192}
 use Rattle.krb_settings.specs.Fields.{suite_name}
+use Rattle.krb_account_texts.specs.FurtherLines.{ends_text, further_fields, has_further, lifetime_text, marks_of, older_text}
 use Rattle.krb_account_texts.specs.Lines.{WrittenLine, comment, realm, account, account_fields, disabled_mark, guarded, line_text, further_by, realm_text, salt_text, words_text}
-use Rattle.krb_account_texts.specs.Reading.{account_in, disabled_of, fields, is_disabled, is_printed, judged_kvno, judged_name, key_in, kvno_in, line_in, line_of, name_in, no_words, pkinit_in, realm_by, realm_in, realm_name_in, salt_in, seconds_in, settings_of, suite_in}
+use Rattle.krb_account_texts.specs.Reading.{account_in, active_of, disabled_of, fields, has_realm_fields, is_disabled, is_printed, judged_name, line_in, line_of, name_in, no_words, pkinit_in, realm_by, realm_in, realm_name_in, realm_line_of, seconds_in, settings_of}
 use Rattle.krb_account_texts.specs.Steps.{◌>>=◌}
-use Rattle.krb_account_texts.specs.Writable.{ArePkinitBytes, IsAccount, IsComment, IsRealm, IsSalt, IsWritable}
+use Rattle.krb_account_texts.specs.Writable.{ArePkinitBytes, IsAccount, IsComment, IsRealm, IsWritable}
 use Rattle.krb_account_texts.specs.declared.fault.LineFault.{LineFault}
 use Rattle.krb_account_texts.specs.declared.words.Words.{Words}
+use Rattle.krb_account_texts.proofs.Feeds.{fed-part, fed-plain}
+use Rattle.krb_account_texts.proofs.FieldsAgain.{key-again, kvno-again, salt-again, suite-again}
+use Rattle.krb_account_texts.proofs.FurtherAgain.{further-again, further-cells, further-fed-by, further_parts, parts_where}
 use Rattle.krb_account_texts.proofs.Numbers.{decimal-read}
-use Rattle.krb_account_texts.proofs.Plain.{all-both, all-cons, is_all_plain, is_plain, no_feed, no_tab, plain-decimal, plain-hex, plain-name, plain-suite, split-last, split-part}
+use Rattle.krb_account_texts.proofs.Plain.{all-both, all-cons, is_all_plain, is_plain, plain-decimal, plain-hex, plain-name, plain-suite}
+use Rattle.krb_account_texts.proofs.Tabs.{tab-last, tab-part}
 use Rattle.krb_account_texts.proofs.Worded.{further-more, no-words, plain-words, says, words-read}
 
 -- names
@@ -83,76 +84,23 @@ plain-marked false text plain = plain
 plain-first : (name : List Bytes) → AreComponents name → is_all_plain (guarded (name_text name)) ≡ true
 plain-first name are = plain-marked (slice_index (name_text name) 0 == 35) (name_text name) (plain-name name (ascii-name name are))
 
--- suites
-pub suite-again : (suite : CipherSuite) → suite_in (suite_name suite) ≡ Ok suite
-unfolding suite_name suite_in
-suite-again Aes128CtsHmacSha196 = refl
-suite-again Aes256CtsHmacSha196 = refl
-suite-again Des3CbcSha1Kd = refl
-suite-again Aes128CtsHmacSha256128 = refl
-suite-again Aes256CtsHmacSha384192 = refl
-
--- kvnos
-pub kvno-again : (kvno : ℕ) → 1 ≤ kvno → kvno < 2 ^ 32 → kvno_in (decimal kvno) ≡ Ok kvno
-kvno-again kvno from_one fits =
-    let some : (kvno == 0) ≡ false = grind (arith, nat_tests) in
-    ap judged_kvno (decimal-read kvno fits) ∙ rw some refl
-
--- salts
-and-none : (b : Bool) → (b && false) ≡ false
-and-none true = refl
-and-none false = refl
-
-no-dash : (salt : Bytes) → pointwise nat_eq (encode_lower salt) (codes "-") ≡ false
-unfolding encode_with
-no-dash [] = refl
-no-dash (octet ∷ salt) = and-none (nat_eq (slice_index lower_digits (octet / 16)) 45)
-
-ascii-bytes : (octets : Bytes) → IsTrue (is_ascii octets) → IsBytes octets
-ascii-bytes [] ascii i = omega arith
-ascii-bytes (octet ∷ octets) ascii zero =
-    let below : octet < 128 = ltb-true octet 128 (and_parts _ _ ascii).0 in
-    omega arith
-ascii-bytes (octet ∷ octets) ascii (suc i) = ascii-bytes octets (and_parts _ _ ascii).1 i
-
-pub salt-again : (salt : Option Bytes) → IsSalt salt → salt_in (salt_text salt) ≡ Ok salt
-unfolding salt_in
-salt-again None is = refl
-salt-again (Some salt) is = rw (no-dash salt, decode_of-encode_lower salt (ascii-bytes salt is), is) refl
-
--- keys
-pub key-again : (suite : CipherSuite) (key : Bytes) → length key ≡ cipher_key_size suite → IsBytes key → key_in suite (encode_lower key) ≡ Ok key
-unfolding key_in
-key-again suite key size bytes =
-    let fits : (length key == cipher_key_size suite) ≡ true = grind (arith, nat_tests) in
-    rw (decode_of-encode_lower key bytes, fits) refl
-
 account-again : (is_off : Bool) (name : List Bytes) (own : AccountRecord) → IsAccount name own
-    → account_in is_off (guarded (name_text name)) (suite_name own.suite) (decimal own.kvno) (salt_text own.salt) (encode_lower own.key) ≡ Ok (account name own is_off)
+    → account_in is_off (guarded (name_text name)) (suite_name own.suite) (decimal own.kvno) (salt_text own.salt) (encode_lower own.key) (further_parts own) ≡ Ok (account name own is_off)
 unfolding account_in
 account-again is_off name own is =
-    rw (first-again name is.name_is, suite-again own.suite, kvno-again own.kvno is.from_one is.kvno_fits, salt-again own.salt is.salt_is, key-again own.suite own.key is.key_size is.key_bytes) refl
+    rw (first-again name is.name_is, suite-again own.suite, kvno-again own.kvno is.from_one is.kvno_fits, salt-again own.salt is.salt_is, key-again own.suite own.key is.key_size is.key_bytes, further-again name own is) refl
 
 -- the parts of an account's line
-abbrev is_tab : ℕ → Bool
-is_tab octet = octet == 9
-
-tab-part : (part rest : List ℕ) → is_all_plain part ≡ true → fields (part ++ 9 ∷ rest) ≡ part ∷ fields rest
-tab-part part rest plain = split-part is_tab is_plain no_tab part 9 rest plain refl
-
-tab-last : (part : List ℕ) → is_all_plain part ≡ true → fields part ≡ part ∷ []
-tab-last part plain = split-last is_tab is_plain no_tab part plain
-
 plain-salt : (salt : Option Bytes) → is_all_plain (salt_text salt) ≡ true
 plain-salt None = refl
 plain-salt (Some salt) = plain-hex salt
 
 account-parts : (name : List Bytes) (own : AccountRecord) → IsAccount name own
-    → fields (account_fields name own) ≡ guarded (name_text name) ∷ suite_name own.suite ∷ decimal own.kvno ∷ salt_text own.salt ∷ encode_lower own.key ∷ []
+    → fields (account_fields name own) ≡ guarded (name_text name) ∷ suite_name own.suite ∷ decimal own.kvno ∷ salt_text own.salt ∷ encode_lower own.key ∷ further_parts own
 account-parts name own is =
     let first : List ℕ = guarded (name_text name) in
     let salt : List ℕ = salt_text own.salt in
-    let key : List ℕ = encode_lower own.key in
+    let key : List ℕ = encode_lower own.key ++ further_fields own in
     let kvno : List ℕ = decimal own.kvno in
     let suite : List ℕ = suite_name own.suite in
     tab-part first (suite ++ 9 ∷ (kvno ++ 9 ∷ (salt ++ 9 ∷ key))) (plain-first name is.name_is)
@@ -161,15 +109,34 @@ account-parts name own is =
     ∙ ap (λ parts. suite ∷ parts)
     (tab-part kvno (salt ++ 9 ∷ key) (plain-decimal own.kvno (omega (arith, is.kvno_fits)))
     ∙ ap (λ parts. kvno ∷ parts)
-    (tab-part salt key (plain-salt own.salt) ∙ ap (λ parts. salt ∷ parts) (tab-last key (plain-hex own.key)))))
+    (tab-part salt key (plain-salt own.salt) ∙ ap (λ parts. salt ∷ parts) (further-cells name own is))))
+
+-- the parts are an account's, and no realm's: there are five, or eight and more
+enough : (own : AccountRecord) (name suite kvno salt key : List ℕ) → line_of (name ∷ suite ∷ kvno ∷ salt ∷ key ∷ further_parts own) ≡ account_in false name suite kvno salt key (further_parts own)
+enough own name suite kvno salt key = by (has_further own)
+  where
+    eight : (a b c d e f g h : List ℕ) (more : List (List ℕ)) → has_realm_fields (a ∷ b ∷ c ∷ d ∷ e ∷ f ∷ g ∷ h ∷ more) ≡ false
+    eight a b c d e f g h more =
+        let parts : List (List ℕ) = a ∷ b ∷ c ∷ d ∷ e ∷ f ∷ g ∷ h ∷ more in
+        let long : length parts ≡ 8 + length more = omega arith in
+        let not_four : (length parts == 4) ≡ false = grind (arith, nat_tests) in
+        let not_six : (length parts == 6) ≡ false = grind (arith, nat_tests) in
+        λ i. not_four i || not_six i
+
+    by : (further : Bool) → line_of (name ∷ suite ∷ kvno ∷ salt ∷ key ∷ parts_where further own) ≡ account_in false name suite kvno salt key (parts_where further own)
+    by true =
+        let parts : List (List ℕ) = name ∷ suite ∷ kvno ∷ salt ∷ key ∷ parts_where true own in
+        ap (λ (is : Bool). cond is (realm_line_of parts) (active_of parts))
+        (eight name suite kvno salt key (ends_text own.attributes.ends) (lifetime_text own.attributes.lifetime) (marks_of own.attributes) (map older_text own.former))
+    by false = refl
 
 account-line : (name : List Bytes) (own : AccountRecord) → IsAccount name own → line_in (account_fields name own) ≡ Ok (account name own false)
 unfolding line_in
 account-line name own is =
     let text : List ℕ = account_fields name own in
-    let more : List ℕ = suite_name own.suite ++ 9 ∷ (decimal own.kvno ++ 9 ∷ (salt_text own.salt ++ 9 ∷ encode_lower own.key)) in
+    let more : List ℕ = suite_name own.suite ++ 9 ∷ (decimal own.kvno ++ 9 ∷ (salt_text own.salt ++ 9 ∷ (encode_lower own.key ++ further_fields own))) in
     let begins : (slice_index text 0 == 35) ≡ false = begins-otherwise (name_text name) more in
-    rw (unmarked text begins, begins) (ap line_of (account-parts name own is) ∙ account-again false name own is)
+    rw (unmarked text begins, begins) (ap line_of (account-parts name own is) ∙ enough own (guarded (name_text name)) (suite_name own.suite) (decimal own.kvno) (salt_text own.salt) (encode_lower own.key) ∙ account-again false name own is)
 
 disabled-line : (name : List Bytes) (own : AccountRecord) → IsAccount name own → line_in (disabled_mark ++ account_fields name own) ≡ Ok (account name own true)
 unfolding line_in
@@ -206,10 +173,10 @@ pkinit-again (Some octets) are =
     let some : (length octets == 0) ≡ false = grind (arith, nat_tests) in
     rw (decode_of-encode_lower octets bytes, some) refl
 
-realm-again : (name : Bytes) (settings : SettingsRecord) (pkinit : Option Bytes) → IsRealm name settings pkinit
-    → realm_in name (decimal settings.skew) (decimal settings.lifetime) settings.policy (option_map encode_lower pkinit) ≡ Ok (realm name settings pkinit)
+realm-again : (name : Bytes) (settings : SettingsRecord) (guards : Bool) (pkinit : Option Bytes) → IsRealm name settings pkinit
+    → realm_in name (decimal settings.skew) (decimal settings.lifetime) settings.policy guards (option_map encode_lower pkinit) ≡ Ok (realm name settings guards pkinit)
 unfolding realm_in realm_name_in
-realm-again name settings pkinit is =
+realm-again name settings guards pkinit is =
     let skew = is.settings_are.0 in
     let from_one = is.settings_are.1.0 in
     let lifetime = is.settings_are.1.1 in
@@ -233,9 +200,9 @@ plain-lifetime : (name : Bytes) (settings : SettingsRecord) (pkinit : Option Byt
 plain-lifetime name settings pkinit is = let lifetime_is = is.settings_are.1.1 in plain-decimal settings.lifetime (omega arith)
 
 -- the further fields of the realm's line, and the line that they have
-abbrev further_fields : List ℕ → List ℕ → List (List ℕ)
-further_fields [] octets = []
-further_fields (c ∷ words) octets = (c ∷ words) ∷ octets ∷ []
+abbrev words_fields : List ℕ → List ℕ → List (List ℕ)
+words_fields [] octets = []
+words_fields (c ∷ words) octets = (c ∷ words) ∷ octets ∷ []
 
 -- two plain fields after a plain one
 two-parts : (first words last : List ℕ) → is_all_plain first ≡ true → is_all_plain words ≡ true → is_all_plain last ≡ true
@@ -245,37 +212,39 @@ two-parts first words last plain_first plain_words plain_last =
     ∙ ap (λ more. first ∷ more) (tab-part words last plain_words ∙ ap (λ more. words ∷ more) (tab-last last plain_last))
 
 further-parts : (lifetime words octets : List ℕ) → is_all_plain lifetime ≡ true → is_all_plain words ≡ true → is_all_plain octets ≡ true
-    → fields (lifetime ++ further_by words octets) ≡ lifetime ∷ further_fields words octets
+    → fields (lifetime ++ further_by words octets) ≡ lifetime ∷ words_fields words octets
 further-parts lifetime [] octets plain_lifetime plain_words plain_octets = rw append-nil (tab-last lifetime plain_lifetime)
 further-parts lifetime (c ∷ words) octets plain_lifetime plain_words plain_octets =
     ap (λ (more : List ℕ). fields (lifetime ++ more)) (further-more c words octets) ∙ two-parts lifetime (c ∷ words) octets plain_lifetime plain_words plain_octets
 
-none-line : (name skew lifetime : List ℕ) (policy : Policy) (pkinit : Option Bytes) → no_words ≡ says policy (is_some pkinit)
-    → line_of (codes "realm" ∷ name ∷ skew ∷ lifetime ∷ []) ≡ realm_in name skew lifetime policy (option_map encode_lower pkinit)
-none-line name skew lifetime policy None same = ap (λ (words : Words). realm_in name skew lifetime words.policy None) same
-none-line name skew lifetime policy (Some octets) same = let off : false ≡ true = ap (λ (words : Words). words.is_certified) same in absurd (cc (off))
+none-line : (name skew lifetime : List ℕ) (policy : Policy) (guards : Bool) (pkinit : Option Bytes) → no_words ≡ says policy guards (is_some pkinit)
+    → line_of (codes "realm" ∷ name ∷ skew ∷ lifetime ∷ []) ≡ realm_in name skew lifetime policy guards (option_map encode_lower pkinit)
+none-line name skew lifetime policy guards None same = ap (λ (words : Words). realm_in name skew lifetime words.policy words.guards_passwords None) same
+none-line name skew lifetime policy guards (Some octets) same = let off : false ≡ true = ap (λ (words : Words). words.is_certified) same in absurd (cc (off))
 
-pkinit-line : (name skew lifetime : List ℕ) (policy : Policy) (pkinit : Option Bytes)
-    → realm_by name skew lifetime (salt_text pkinit) (says policy (is_some pkinit)) ≡ realm_in name skew lifetime policy (option_map encode_lower pkinit)
-pkinit-line name skew lifetime policy None = refl
-pkinit-line name skew lifetime policy (Some octets) = refl
+pkinit-line : (name skew lifetime : List ℕ) (policy : Policy) (guards : Bool) (pkinit : Option Bytes)
+    → realm_by name skew lifetime (salt_text pkinit) (says policy guards (is_some pkinit)) ≡ realm_in name skew lifetime policy guards (option_map encode_lower pkinit)
+pkinit-line name skew lifetime policy guards None = refl
+pkinit-line name skew lifetime policy guards (Some octets) = refl
 
-further-line : (name skew lifetime : List ℕ) (policy : Policy) (pkinit : Option Bytes) → policy.renewable_life ≤ 31536000 → (words : List ℕ) → words_text policy (is_some pkinit) ≡ words
-    → line_of (codes "realm" ∷ name ∷ skew ∷ lifetime ∷ further_fields words (salt_text pkinit)) ≡ realm_in name skew lifetime policy (option_map encode_lower pkinit)
-further-line name skew lifetime policy pkinit few [] is = none-line name skew lifetime policy pkinit (no-words policy (is_some pkinit) few is)
-further-line name skew lifetime policy pkinit few (c ∷ words) is =
-    ap (λ (own : Result Words LineFault). own >>= realm_by name skew lifetime (salt_text pkinit)) (words-read policy (is_some pkinit) c words few is)
-    ∙ pkinit-line name skew lifetime policy pkinit
+further-line : (name skew lifetime : List ℕ) (policy : Policy) (guards : Bool) (pkinit : Option Bytes) → policy.renewable_life ≤ 31536000 → (words : List ℕ)
+    → words_text policy guards (is_some pkinit) ≡ words
+    → line_of (codes "realm" ∷ name ∷ skew ∷ lifetime ∷ words_fields words (salt_text pkinit)) ≡ realm_in name skew lifetime policy guards (option_map encode_lower pkinit)
+further-line name skew lifetime policy guards pkinit few [] is = none-line name skew lifetime policy guards pkinit (no-words policy guards (is_some pkinit) few is)
+further-line name skew lifetime policy guards pkinit few (c ∷ words) is =
+    ap (λ (own : Result Words LineFault). own >>= realm_by name skew lifetime (salt_text pkinit)) (words-read policy guards (is_some pkinit) c words few is)
+    ∙ pkinit-line name skew lifetime policy guards pkinit
 
-realm-line : (name : Bytes) (settings : SettingsRecord) (pkinit : Option Bytes) → IsRealm name settings pkinit → line_in (realm_text name settings pkinit) ≡ Ok (realm name settings pkinit)
+realm-line : (name : Bytes) (settings : SettingsRecord) (guards : Bool) (pkinit : Option Bytes) → IsRealm name settings pkinit
+    → line_in (realm_text name settings guards pkinit) ≡ Ok (realm name settings guards pkinit)
 unfolding line_in
-realm-line name settings pkinit is =
+realm-line name settings guards pkinit is =
     let lifetime : List ℕ = decimal settings.lifetime in
-    let words : List ℕ = words_text settings.policy (is_some pkinit) in
+    let words : List ℕ = words_text settings.policy guards (is_some pkinit) in
     let octets : List ℕ = salt_text pkinit in
-    let last = further-parts lifetime words octets (plain-lifetime name settings pkinit is) (plain-words settings.policy (is_some pkinit) is.life_is) (plain-salt pkinit) in
-    ap line_of (realm-parts name settings pkinit is (further_by words octets) (further_fields words octets) last)
-    ∙ further-line name (decimal settings.skew) lifetime settings.policy pkinit is.life_is words refl ∙ realm-again name settings pkinit is
+    let last = further-parts lifetime words octets (plain-lifetime name settings pkinit is) (plain-words settings.policy guards (is_some pkinit) is.life_is) (plain-salt pkinit) in
+    ap line_of (realm-parts name settings pkinit is (further_by words octets) (words_fields words octets) last)
+    ∙ further-line name (decimal settings.skew) lifetime settings.policy guards pkinit is.life_is words refl ∙ realm-again name settings guards pkinit is
 
 comment-line : (text : Bytes) → IsComment text → line_in text ≡ Ok (comment text)
 unfolding line_in
@@ -285,21 +254,9 @@ comment-line text is =
 
 pub line-again : (line : WrittenLine) → IsWritable line → line_in (line_text line) ≡ Ok line
 line-again (comment text) is = comment-line text is
-line-again (realm name settings pkinit) is = realm-line name settings pkinit is
+line-again (realm name settings guards pkinit) is = realm-line name settings guards pkinit is
 line-again (account name own true) is = disabled-line name own is
 line-again (account name own false) is = account-line name own is
-
--- a plain text has no line feed
-fed-plain : (text : List ℕ) → is_all_plain text ≡ true → list_all (λ octet. not (octet == 10)) text ≡ true
-fed-plain [] plain = refl
-fed-plain (c ∷ text) plain =
-    let both = and_parts (is_plain c) (is_all_plain text) plain in
-    rw (no_feed c both.0, fed-plain text both.1) refl
-
--- plain texts with tabs between them have none
-fed-part : (part rest : List ℕ) → is_all_plain part ≡ true → list_all (λ octet. not (octet == 10)) rest ≡ true
-    → list_all (λ octet. not (octet == 10)) (part ++ 9 ∷ rest) ≡ true
-fed-part part rest plain fed = all-both (λ octet. not (octet == 10)) part (9 ∷ rest) (fed-plain part plain) fed
 
 realm-front : (name : Bytes) (settings : SettingsRecord) (pkinit : Option Bytes) → IsRealm name settings pkinit → (last : List ℕ)
     → list_all (λ octet. not (octet == 10)) (decimal settings.lifetime ++ last) ≡ true
@@ -321,22 +278,24 @@ further-fed lifetime (c ∷ words) octets plain_lifetime plain_words plain_octet
     ap (λ (more : List ℕ). list_all (λ octet. not (octet == 10)) (lifetime ++ more)) (further-more c words octets)
     ∙ two-fed lifetime (c ∷ words) octets plain_lifetime plain_words plain_octets
 
-realm-fed : (name : Bytes) (settings : SettingsRecord) (pkinit : Option Bytes) → IsRealm name settings pkinit → list_all (λ octet. not (octet == 10)) (realm_text name settings pkinit) ≡ true
-realm-fed name settings pkinit is =
-    let words : List ℕ = words_text settings.policy (is_some pkinit) in
+realm-fed : (name : Bytes) (settings : SettingsRecord) (guards : Bool) (pkinit : Option Bytes) → IsRealm name settings pkinit
+    → list_all (λ octet. not (octet == 10)) (realm_text name settings guards pkinit) ≡ true
+realm-fed name settings guards pkinit is =
+    let words : List ℕ = words_text settings.policy guards (is_some pkinit) in
     let octets : List ℕ = salt_text pkinit in
     realm-front name settings pkinit is (further_by words octets)
-    (further-fed (decimal settings.lifetime) words octets (plain-lifetime name settings pkinit is) (plain-words settings.policy (is_some pkinit) is.life_is) (plain-salt pkinit))
+    (further-fed (decimal settings.lifetime) words octets (plain-lifetime name settings pkinit is) (plain-words settings.policy guards (is_some pkinit) is.life_is) (plain-salt pkinit))
 
 fields-fed : (name : List Bytes) (own : AccountRecord) → IsAccount name own → list_all (λ octet. not (octet == 10)) (account_fields name own) ≡ true
 fields-fed name own is =
-    fed-part (guarded (name_text name)) (suite_name own.suite ++ 9 ∷ (decimal own.kvno ++ 9 ∷ (salt_text own.salt ++ 9 ∷ encode_lower own.key))) (plain-first name is.name_is)
-    (fed-part (suite_name own.suite) (decimal own.kvno ++ 9 ∷ (salt_text own.salt ++ 9 ∷ encode_lower own.key)) (plain-suite own.suite)
-    (fed-part (decimal own.kvno) (salt_text own.salt ++ 9 ∷ encode_lower own.key) (plain-decimal own.kvno (omega (arith, is.kvno_fits)))
-    (fed-part (salt_text own.salt) (encode_lower own.key) (plain-salt own.salt) (fed-plain (encode_lower own.key) (plain-hex own.key)))))
+    let key : List ℕ = encode_lower own.key ++ further_fields own in
+    fed-part (guarded (name_text name)) (suite_name own.suite ++ 9 ∷ (decimal own.kvno ++ 9 ∷ (salt_text own.salt ++ 9 ∷ key))) (plain-first name is.name_is)
+    (fed-part (suite_name own.suite) (decimal own.kvno ++ 9 ∷ (salt_text own.salt ++ 9 ∷ key)) (plain-suite own.suite)
+    (fed-part (decimal own.kvno) (salt_text own.salt ++ 9 ∷ key) (plain-decimal own.kvno (omega (arith, is.kvno_fits)))
+    (fed-part (salt_text own.salt) key (plain-salt own.salt) (further-fed-by name own is))))
 
 pub line-fed : (line : WrittenLine) → IsWritable line → list_all (λ octet. not (octet == 10)) (line_text line) ≡ true
 line-fed (comment text) is = is.line
-line-fed (realm name settings pkinit) is = realm-fed name settings pkinit is
+line-fed (realm name settings guards pkinit) is = realm-fed name settings guards pkinit is
 line-fed (account name own true) is = all-both (λ octet. not (octet == 10)) disabled_mark (account_fields name own) refl (fields-fed name own is)
 line-fed (account name own false) is = fields-fed name own is

@@ -1,5 +1,11 @@
 pub mod Plain
 pub mod Numbers
+mod Tabs
+mod Feeds
+mod FieldsAgain
+mod FurtherAgain
+mod FieldsRead
+mod FurtherRead
 pub mod Again
 pub mod Texts
 pub mod Loops

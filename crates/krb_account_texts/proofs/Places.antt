@@ -1,5 +1,5 @@
 -- A line at its place.
-use Rattle.std.proofs.Common.{◌≡◌, ℕ, zero, suc, ◌+◌, ◌<◌, Bool, true, false, cond, if◌then◌else◌, List, [], ◌∷◌, ◌++◌, length, get_or, set, take, drop, ◌↔◌, Option, None, Some, IsSome, Result, Ok, Err, refl, ap, sym, ◌∙◌, arith}
+use Rattle.std.proofs.Common.{◌≡◌, ℕ, zero, suc, ◌+◌, ◌<◌, Bool, true, false, cond, if◌then◌else◌, List, [], ◌∷◌, ◌++◌, length, get_or, set, take, drop, ◌↔◌, ◌⊎◌, inl, inr, subst, IfErr, Option, None, Some, IsSome, Result, Ok, Err, refl, ap, sym, ◌∙◌, arith}
 use Rattle.std.specs.Prelude.{OnOk}
 use Rattle.std.specs.List.{insert, position_from, remove}
 use Rattle.std.proofs.lemmas.List.{take-append-drop}
@@ -126,6 +126,19 @@ spent-at name lines place d found = spent-from name 0 lines place place d found 
 pub spent-there : (r : Result (Unit {0}) EditRefusal) (spent found : Bool) → found ≡ spent → r ≡ (if spent then Err NumberSpent else Ok tt) → (r ≡ Err NumberSpent) ↔ (found ≡ true)
 spent-there r true found same is = (λ _. same, λ _. is)
 spent-there r false found same is = (λ e. let both : Ok tt ≡ Err NumberSpent = sym is ∙ e in absurd (cc (both)), λ e. absurd (cc (same, e)))
+
+pub spent-same : (r : Result (Unit {0}) EditRefusal) (spent found : Bool) → found ≡ spent → (r ≡ Err NumberSpent) ↔ (spent ≡ true) → (r ≡ Err NumberSpent) ↔ (found ≡ true)
+spent-same r spent found same is = subst (λ (b : Bool). (r ≡ Err NumberSpent) ↔ (b ≡ true)) (sym same) is
+
+-- a call that may be refused for want of memory or of a further kvno isn't refused as one of an unknown name
+unknown-no : (r : Result (Unit {0}) EditRefusal) → IfErr r (λ e. (e ≡ NumberSpent) ⊎ (e ≡ Memory)) → r ≡ Err Unknown → ⊥
+unknown-no (Ok x) refused e = cc (e)
+unknown-no (Err x) (inl spent) e = let same : x ≡ Unknown = cc (e) in cc (spent, same)
+unknown-no (Err x) (inr memory) e = let same : x ≡ Unknown = cc (e) in cc (memory, same)
+
+pub not-unknown : (r : Result (Unit {0}) EditRefusal) (found : Option ℕ) (place : ℕ) → found ≡ Some place → IfErr r (λ e. (e ≡ NumberSpent) ⊎ (e ≡ Memory))
+    → (r ≡ Err Unknown) ↔ (found ≡ None)
+not-unknown r found place some refused = (λ e. absurd (unknown-no r refused e), λ none. absurd (cc (some, none)))
 
 pub unknown-there : (r : Result (Unit {0}) EditRefusal) (found : Bool) → r ≡ Err Unknown → found ≡ false → (r ≡ Err NumberSpent) ↔ (found ≡ true)
 unknown-there r found is none = (λ e. let both : Err Unknown ≡ Err NumberSpent = sym is ∙ e in absurd (cc (both)), λ e. absurd (cc (none, e)))

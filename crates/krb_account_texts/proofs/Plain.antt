@@ -45,12 +45,15 @@ pub all-cons : (p : ℕ → Bool) (x : ℕ) (xs : List ℕ) → p x ≡ true →
 all-cons p x xs first second = both_true (p x) (list_all p xs) first second
 
 -- decimal digits
-pub plain-decimal : (n : ℕ) → n < 2 ^ 64 → is_all_plain (decimal n) ≡ true
-plain-decimal n below =
-    decimal_by_steps (λ n ds. is_all_plain ds ≡ true)
-    (λ n small. all-cons is_plain (48 + n) [] (plain-above (48 + n) (omega arith)) refl)
-    (λ n ds big so_far. all-both is_plain ds ((48 + n % 10) ∷ []) so_far (all-cons is_plain (48 + n % 10) [] (plain-above (48 + n % 10) (omega arith)) refl))
+pub all-decimal : (p : ℕ → Bool) → ((digit : ℕ) → digit < 10 → p (48 + digit) ≡ true) → (n : ℕ) → n < 2 ^ 64 → list_all p (decimal n) ≡ true
+all-decimal p passes n below =
+    decimal_by_steps (λ n ds. list_all p ds ≡ true)
+    (λ n small. all-cons p (48 + n) [] (passes n small) refl)
+    (λ n ds big so_far. all-both p ds ((48 + n % 10) ∷ []) so_far (all-cons p (48 + n % 10) [] (passes (n % 10) (omega arith)) refl))
     n below
+
+pub plain-decimal : (n : ℕ) → n < 2 ^ 64 → is_all_plain (decimal n) ≡ true
+plain-decimal = all-decimal is_plain (λ digit small. plain-above (48 + digit) (omega arith))
 
 -- hexadecimal digits
 at-all : (p : ℕ → Bool) (xs : List ℕ) (i : ℕ) → list_all p xs ≡ true → p 0 ≡ true → p (slice_index xs i) ≡ true
@@ -58,15 +61,18 @@ at-all p [] i all none = none
 at-all p (x ∷ xs) zero all none = (and_parts (p x) (list_all p xs) all).0
 at-all p (x ∷ xs) (suc i) all none = at-all p xs i (and_parts (p x) (list_all p xs) all).1 none
 
-plain-encode : (t xs : List ℕ) → is_all_plain t ≡ true → is_all_plain (encode_with t xs) ≡ true
+all-encode : (p : ℕ → Bool) (t xs : List ℕ) → list_all p t ≡ true → p 0 ≡ true → list_all p (encode_with t xs) ≡ true
 unfolding encode_with
-plain-encode t [] plain = refl
-plain-encode t (b ∷ rest) plain =
-    all-cons is_plain (slice_index t (b / 16)) (slice_index t (b % 16) ∷ encode_with t rest) (at-all is_plain t (b / 16) plain refl)
-    (all-cons is_plain (slice_index t (b % 16)) (encode_with t rest) (at-all is_plain t (b % 16) plain refl) (plain-encode t rest plain))
+all-encode p t [] all none = refl
+all-encode p t (b ∷ rest) all none =
+    all-cons p (slice_index t (b / 16)) (slice_index t (b % 16) ∷ encode_with t rest) (at-all p t (b / 16) all none)
+    (all-cons p (slice_index t (b % 16)) (encode_with t rest) (at-all p t (b % 16) all none) (all-encode p t rest all none))
+
+pub all-hex : (p : ℕ → Bool) (xs : List ℕ) → list_all p lower_digits ≡ true → p 0 ≡ true → list_all p (encode_lower xs) ≡ true
+all-hex p xs all none = all-encode p lower_digits xs all none
 
 pub plain-hex : (xs : List ℕ) → is_all_plain (encode_lower xs) ≡ true
-plain-hex xs = plain-encode lower_digits xs refl
+plain-hex xs = all-hex is_plain xs refl refl
 
 -- suites
 pub plain-suite : (suite : CipherSuite) → is_all_plain (suite_name suite) ≡ true

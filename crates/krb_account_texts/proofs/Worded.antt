@@ -29,23 +29,25 @@ plain-before false word text first second = second
 plain-before true word [] first second = first
 plain-before true word (c ∷ text) first second = ap is_all_plain (before-more word c text) ∙ all-both is_plain word (44 ∷ c ∷ text) first second
 
-pub plain-words : (policy : Policy) (is : Bool) → policy.renewable_life ≤ 31536000 → is_all_plain (words_text policy is) ≡ true
+pub plain-words : (policy : Policy) (guards is : Bool) → policy.renewable_life ≤ 31536000 → is_all_plain (words_text policy guards is) ≡ true
 unfolding words_text
-plain-words policy is few =
+plain-words policy guards is few =
     let life : ℕ = policy.renewable_life in
     let last : List ℕ = before is (codes "pkinit") [] in
     let sha1 : List ℕ = before policy.pkinit_sha1 (codes "pkinit-sha1") last in
     let agility : List ℕ = before policy.pkinit_agility (codes "pkinit-agility") sha1 in
-    let renewable : List ℕ = before (nat_lt 0 life) (renewable_word life) agility in
+    let guarding : List ℕ = before guards (codes "guards-passwords") agility in
+    let renewable : List ℕ = before (nat_lt 0 life) (renewable_word life) guarding in
     let proxiable : List ℕ = before policy.proxiable (codes "proxiable") renewable in
     let forwardable : List ℕ = before policy.forwardable (codes "forwardable") proxiable in
     let seconds : is_all_plain (renewable_word life) ≡ true = all-both is_plain (codes "renewable=") (decimal life) refl (plain-decimal life (omega arith)) in
     plain-before policy.limits_des3 (codes "limits-des3") forwardable refl
     (plain-before policy.forwardable (codes "forwardable") proxiable refl
     (plain-before policy.proxiable (codes "proxiable") renewable refl
-    (plain-before (nat_lt 0 life) (renewable_word life) agility seconds
+    (plain-before (nat_lt 0 life) (renewable_word life) guarding seconds
+    (plain-before guards (codes "guards-passwords") agility refl
     (plain-before policy.pkinit_agility (codes "pkinit-agility") sha1 refl
-    (plain-before policy.pkinit_sha1 (codes "pkinit-sha1") last refl (plain-before is (codes "pkinit") [] refl refl))))))
+    (plain-before policy.pkinit_sha1 (codes "pkinit-sha1") last refl (plain-before is (codes "pkinit") [] refl refl)))))))
 
 -- each octet of a word is above a comma
 abbrev is_comma : ℕ → Bool
@@ -99,39 +101,44 @@ from_sha1 policy is = word_if policy.pkinit_sha1 (codes "pkinit-sha1") ++ from_p
 abbrev from_agility : Policy → Bool → List (List ℕ)
 from_agility policy is = word_if policy.pkinit_agility (codes "pkinit-agility") ++ from_sha1 policy is
 
-abbrev from_renewable : Policy → Bool → List (List ℕ)
-from_renewable policy is = word_if (nat_lt 0 policy.renewable_life) (renewable_word policy.renewable_life) ++ from_agility policy is
+abbrev from_guarding : Policy → Bool → Bool → List (List ℕ)
+from_guarding policy guards is = word_if guards (codes "guards-passwords") ++ from_agility policy is
 
-abbrev from_proxiable : Policy → Bool → List (List ℕ)
-from_proxiable policy is = word_if policy.proxiable (codes "proxiable") ++ from_renewable policy is
+abbrev from_renewable : Policy → Bool → Bool → List (List ℕ)
+from_renewable policy guards is = word_if (nat_lt 0 policy.renewable_life) (renewable_word policy.renewable_life) ++ from_guarding guards is
 
-abbrev from_forwardable : Policy → Bool → List (List ℕ)
-from_forwardable policy is = word_if policy.forwardable (codes "forwardable") ++ from_proxiable policy is
+abbrev from_proxiable : Policy → Bool → Bool → List (List ℕ)
+from_proxiable policy guards is = word_if policy.proxiable (codes "proxiable") ++ from_renewable policy guards is
 
-abbrev words_of : Policy → Bool → List (List ℕ)
-words_of policy is = word_if policy.limits_des3 (codes "limits-des3") ++ from_forwardable policy is
+abbrev from_forwardable : Policy → Bool → Bool → List (List ℕ)
+from_forwardable policy guards is = word_if policy.forwardable (codes "forwardable") ++ from_proxiable policy guards is
 
-words-in : (policy : Policy) (is : Bool) → policy.renewable_life ≤ 31536000 → AreIn (words_text policy is) (words_of policy is)
+abbrev words_of : Policy → Bool → Bool → List (List ℕ)
+words_of policy guards is = word_if policy.limits_des3 (codes "limits-des3") ++ from_forwardable policy guards is
+
+words-in : (policy : Policy) (guards is : Bool) → policy.renewable_life ≤ 31536000 → AreIn (words_text policy guards is) (words_of policy guards is)
 unfolding words_text
-words-in policy is few =
+words-in policy guards is few =
     let life : ℕ = policy.renewable_life in
     let last : List ℕ = before is (codes "pkinit") [] in
     let sha1 : List ℕ = before policy.pkinit_sha1 (codes "pkinit-sha1") last in
     let agility : List ℕ = before policy.pkinit_agility (codes "pkinit-agility") sha1 in
-    let renewable : List ℕ = before (nat_lt 0 life) (renewable_word life) agility in
+    let guarding : List ℕ = before guards (codes "guards-passwords") agility in
+    let renewable : List ℕ = before (nat_lt 0 life) (renewable_word life) guarding in
     let proxiable : List ℕ = before policy.proxiable (codes "proxiable") renewable in
     let forwardable : List ℕ = before policy.forwardable (codes "forwardable") proxiable in
     let seconds : list_all is_worded (renewable_word life) ≡ true = all-both is_worded (codes "renewable=") (decimal life) refl (worded-decimal life (omega arith)) in
-    in-before policy.limits_des3 (codes "limits-des3") forwardable (from_forwardable policy is) tt refl
-    (in-before policy.forwardable (codes "forwardable") proxiable (from_proxiable policy is) tt refl
-    (in-before policy.proxiable (codes "proxiable") renewable (from_renewable policy is) tt refl
-    (in-before (nat_lt 0 life) (renewable_word life) agility (from_agility policy is) tt seconds
+    in-before policy.limits_des3 (codes "limits-des3") forwardable (from_forwardable policy guards is) tt refl
+    (in-before policy.forwardable (codes "forwardable") proxiable (from_proxiable policy guards is) tt refl
+    (in-before policy.proxiable (codes "proxiable") renewable (from_renewable policy guards is) tt refl
+    (in-before (nat_lt 0 life) (renewable_word life) guarding (from_guarding policy guards is) tt seconds
+    (in-before guards (codes "guards-passwords") agility (from_agility policy is) tt refl
     (in-before policy.pkinit_agility (codes "pkinit-agility") sha1 (from_sha1 policy is) tt refl
-    (in-before policy.pkinit_sha1 (codes "pkinit-sha1") last (from_pkinit is) tt refl (in-before is (codes "pkinit") [] [] tt refl refl))))))
+    (in-before policy.pkinit_sha1 (codes "pkinit-sha1") last (from_pkinit is) tt refl (in-before is (codes "pkinit") [] [] tt refl refl)))))))
 
 -- each word is read behind those before it
-abbrev agreed : Bool → Bool → Bool → ℕ → Bool → Bool → Words
-agreed limits forwardable proxiable life agile sha1 = record {
+abbrev agreed : Bool → Bool → Bool → ℕ → Bool → Bool → Bool → Words
+agreed limits forwardable proxiable life guards agile sha1 = record {
   policy = record {
     limits_des3 = limits;
     forwardable = forwardable;
@@ -140,11 +147,12 @@ agreed limits forwardable proxiable life agile sha1 = record {
     pkinit_agility = agile;
     pkinit_sha1 = sha1;
   };
+  guards_passwords = guards;
   is_certified = false;
 }
 
 abbrev said : Bool → Bool → Bool → ℕ → Words
-said limits forwardable proxiable life = agreed limits forwardable proxiable life false false
+said limits forwardable proxiable life = agreed limits forwardable proxiable life false false false
 
 limits-step : (is : Bool) (more : List (List ℕ)) → words_behind no_words (word_if is (codes "limits-des3") ++ more) ≡ words_behind (said is false false 0) more
 unfolding next_words
@@ -179,43 +187,52 @@ life-step limits forwardable proxiable life more few = by (nat_lt 0 life) refl
         let none : 0 ≡ life = grind (arith, nat_tests) in
         ap (λ (n : ℕ). words_behind (said limits forwardable proxiable n) more) none
 
-abbrev pub says : Policy → Bool → Words
-says policy is = record { policy = policy; is_certified = is }
+abbrev pub says : Policy → Bool → Bool → Words
+says policy guards is = record { policy = policy; guards_passwords = guards; is_certified = is }
 
-agility-step : (limits forwardable proxiable : Bool) (life : ℕ) (is : Bool) (more : List (List ℕ))
-    → words_behind (said limits forwardable proxiable life) (word_if is (codes "pkinit-agility") ++ more) ≡ words_behind (agreed limits forwardable proxiable life is false) more
+guard-step : (limits forwardable proxiable : Bool) (life : ℕ) (is : Bool) (more : List (List ℕ))
+    → words_behind (said limits forwardable proxiable life) (word_if is (codes "guards-passwords") ++ more) ≡ words_behind (agreed limits forwardable proxiable life is false false) more
 unfolding next_words
-agility-step limits forwardable proxiable life true more = refl
-agility-step limits forwardable proxiable life false more = refl
+guard-step limits forwardable proxiable life true more = refl
+guard-step limits forwardable proxiable life false more = refl
 
-sha1-step : (limits forwardable proxiable : Bool) (life : ℕ) (agile is : Bool) (more : List (List ℕ))
-    → words_behind (agreed limits forwardable proxiable life agile false) (word_if is (codes "pkinit-sha1") ++ more) ≡ words_behind (agreed limits forwardable proxiable life agile is) more
+agility-step : (limits forwardable proxiable : Bool) (life : ℕ) (guards is : Bool) (more : List (List ℕ))
+    → words_behind (agreed limits forwardable proxiable life guards false false) (word_if is (codes "pkinit-agility") ++ more)
+        ≡ words_behind (agreed limits forwardable proxiable life guards is false) more
 unfolding next_words
-sha1-step limits forwardable proxiable life agile true more = refl
-sha1-step limits forwardable proxiable life agile false more = refl
+agility-step limits forwardable proxiable life guards true more = refl
+agility-step limits forwardable proxiable life guards false more = refl
 
-certify-step : (policy : Policy) (is : Bool) → words_behind (says policy false) (from_pkinit is) ≡ Ok (says policy is)
+sha1-step : (limits forwardable proxiable : Bool) (life : ℕ) (guards agile is : Bool) (more : List (List ℕ))
+    → words_behind (agreed limits forwardable proxiable life guards agile false) (word_if is (codes "pkinit-sha1") ++ more)
+        ≡ words_behind (agreed limits forwardable proxiable life guards agile is) more
 unfolding next_words
-certify-step policy true = refl
-certify-step policy false = refl
+sha1-step limits forwardable proxiable life guards agile true more = refl
+sha1-step limits forwardable proxiable life guards agile false more = refl
 
-words-again : (policy : Policy) (is : Bool) → policy.renewable_life ≤ 31536000 → words_behind no_words (words_of policy is) ≡ Ok (says policy is)
-words-again policy is few =
-    limits-step policy.limits_des3 (from_forwardable policy is)
-    ∙ forward-step policy.limits_des3 policy.forwardable (from_proxiable policy is)
-    ∙ proxy-step policy.limits_des3 policy.forwardable policy.proxiable (from_renewable policy is)
-    ∙ life-step policy.limits_des3 policy.forwardable policy.proxiable policy.renewable_life (from_agility policy is) few
-    ∙ agility-step policy.limits_des3 policy.forwardable policy.proxiable policy.renewable_life policy.pkinit_agility (from_sha1 policy is)
-    ∙ sha1-step policy.limits_des3 policy.forwardable policy.proxiable policy.renewable_life policy.pkinit_agility policy.pkinit_sha1 (from_pkinit is)
-    ∙ certify-step policy is
+certify-step : (policy : Policy) (guards is : Bool) → words_behind (says policy guards false) (from_pkinit is) ≡ Ok (says policy guards is)
+unfolding next_words
+certify-step policy guards true = refl
+certify-step policy guards false = refl
+
+words-again : (policy : Policy) (guards is : Bool) → policy.renewable_life ≤ 31536000 → words_behind no_words (words_of policy guards is) ≡ Ok (says policy guards is)
+words-again policy guards is few =
+    limits-step policy.limits_des3 (from_forwardable policy guards is)
+    ∙ forward-step policy.limits_des3 policy.forwardable (from_proxiable policy guards is)
+    ∙ proxy-step policy.limits_des3 policy.forwardable policy.proxiable (from_renewable policy guards is)
+    ∙ life-step policy.limits_des3 policy.forwardable policy.proxiable policy.renewable_life (from_guarding policy guards is) few
+    ∙ guard-step policy.limits_des3 policy.forwardable policy.proxiable policy.renewable_life guards (from_agility policy is)
+    ∙ agility-step policy.limits_des3 policy.forwardable policy.proxiable policy.renewable_life guards policy.pkinit_agility (from_sha1 policy is)
+    ∙ sha1-step policy.limits_des3 policy.forwardable policy.proxiable policy.renewable_life guards policy.pkinit_agility policy.pkinit_sha1 (from_pkinit is)
+    ∙ certify-step policy guards is
 
 -- a text of words is read as them, and there is no text where nothing is set
-pub words-read : (policy : Policy) (is : Bool) (c : ℕ) (text : List ℕ) → policy.renewable_life ≤ 31536000 → words_text policy is ≡ c ∷ text
-    → words_in (c ∷ text) ≡ Ok (says policy is)
+pub words-read : (policy : Policy) (guards is : Bool) (c : ℕ) (text : List ℕ) → policy.renewable_life ≤ 31536000 → words_text policy guards is ≡ c ∷ text
+    → words_in (c ∷ text) ≡ Ok (says policy guards is)
 unfolding words_in
-words-read policy is c text few written =
-    let are : slice_split is_comma (c ∷ text) ≡ words_of policy is = subst (λ (it : List ℕ). AreIn it (words_of policy is)) written (words-in policy is few) in
-    ap (words_behind no_words) are ∙ words-again policy is few
+words-read policy guards is c text few written =
+    let are : slice_split is_comma (c ∷ text) ≡ words_of policy guards is = subst (λ (it : List ℕ). AreIn it (words_of policy guards is)) written (words-in policy guards is few) in
+    ap (words_behind no_words) are ∙ words-again policy guards is few
 
 abbrev read_as : Words → Result Words LineFault
 read_as words = Ok words
@@ -223,7 +240,7 @@ read_as words = Ok words
 same-words : (one other : Words) → read_as one ≡ read_as other → one ≡ other
 same-words one other same = cc
 
-pub no-words : (policy : Policy) (is : Bool) → policy.renewable_life ≤ 31536000 → words_text policy is ≡ [] → no_words ≡ says policy is
-no-words policy is few written =
-    let none : words_of policy is ≡ [] = subst (λ (it : List ℕ). AreIn it (words_of policy is)) written (words-in policy is few) in
-    same-words no_words (says policy is) (sym (ap (words_behind no_words) none) ∙ words-again policy is few)
+pub no-words : (policy : Policy) (guards is : Bool) → policy.renewable_life ≤ 31536000 → words_text policy guards is ≡ [] → no_words ≡ says policy guards is
+no-words policy guards is few written =
+    let none : words_of policy guards is ≡ [] = subst (λ (it : List ℕ). AreIn it (words_of policy guards is)) written (words-in policy guards is few) in
+    same-words no_words (says policy guards is) (sym (ap (words_behind no_words) none) ∙ words-again policy guards is few)

@@ -1,6 +1,8 @@
 pub mod Steps
+pub mod FurtherLines
 pub mod Lines
 pub mod Reading
+pub mod Further
 pub mod Edits
 pub mod Order
 pub mod Writable

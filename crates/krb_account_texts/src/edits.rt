@@ -2,16 +2,18 @@
 ghost use Rattle.std.specs.Prelude.{◌≡◌, ◌<◌, ◌↔◌, ◌⊎◌, true, false, length, if◌then◌else◌, IfErr, IfOk, IfSome, Some, IsSome, OnOk, OnErr, None, Ok, Err};
 ghost use Rattle.std.specs.List.{insert};
 ghost use Rattle.std.specs.Option.{option_map};
-ghost use Rattle.krb_account_texts.specs.Edits.{HasCertified, HasChanged, HasOneLess, HasOneMore, certified, is_krbtgt, is_line_of, is_name_spent, is_realm, is_service_of, is_spent, leaving, marked, place_of, realm_place, rekeyed, staying};
+ghost use Rattle.krb_realm_accounts.specs.Accounts.{purged};
+ghost use Rattle.krb_account_texts.specs.Edits.{HasCertified, HasChanged, HasOneLess, HasOneMore, added_line, certified, guards_password, is_krbtgt, is_line_of, is_name_spent, is_realm, is_service_of, is_spent, allowed_line, leaving, marked, place_of, purged_line, realm_place, rekeyed, rekeyed_keeping, staying};
 ghost use Rattle.krb_account_texts.specs.Order.{place_for};
 
 use crate::line::{AccountLine, Line, RealmLine};
 use crate::order::{place_for, realm_among};
+use crate::passwords::{guarded_account, guards_password};
 use krb_crypto::Key;
 use krb_messages::{is_same_name, krbtgt};
-use krb_realm_accounts::Account;
+use krb_realm_accounts::{Account, Attributes, RealmRefusal};
 use picky_asn1::wrapper::{GeneralStringAsn1, OctetStringAsn1};
-use std::alloc::{AllocError, AllocFailed};
+use std::alloc::{AllocError, AllocFailed, Global};
 use thiserror::Error;
 
 /// Why the line of an account was not changed. A refused call changes nothing.
@@ -71,11 +73,12 @@ fn is_line_of(line: &Line, name: &[GeneralStringAsn1]) -> bool
     }
 }
 
-/// Adds the line of an account, at its place in the order of names. All other lines stay. It is refused as `Exists` if and only if the name
-/// has an account.
+/// Adds the line of an account, at its place in the order of names. Where the realm guards passwords, and the key is of one, the account
+/// has the mark that there is no ticket for it as a service. All other lines stay. It is refused as `Exists` if and only if the name has an
+/// account.
 pub fn add(lines: &mut Vec<Line>, account: AccountLine) -> Result<(), EditRefusal>
-    ensures ok { OnOk result (HasOneMore (Line.Account account) lines.old.items lines.new.items) }
-    ensures place { OnOk result (lines.new.items ≡ insert lines.old.items (place_for account.name.name_string.0 lines.old.items) (Line.Account account)) }
+    ensures ok { OnOk result (HasOneMore (added_line (guards_password account.name.name_string.0 lines.old.items) account) lines.old.items lines.new.items) }
+    ensures place { OnOk result (lines.new.items ≡ insert lines.old.items (place_for account.name.name_string.0 lines.old.items) (added_line (guards_password account.name.name_string.0 lines.old.items) account)) }
     ensures exists { (result ≡ Err EditRefusal.Exists) ↔ IsSome (place_of account.name.name_string.0 lines.old.items) }
     ensures new { OnOk result (place_of account.name.name_string.0 lines.old.items ≡ None) }
     ensures refusal { IfErr result (λ e. (e ≡ EditRefusal.Exists) ⊎ (e ≡ EditRefusal.Memory)) }
@@ -86,11 +89,25 @@ pub fn add(lines: &mut Vec<Line>, account: AccountLine) -> Result<(), EditRefusa
         return Err(EditRefusal::Exists);
     }
     let place = place_for(lines, name);
-    lines.insert(place, Line::Account(account))?;
+    let guards = guards_password(lines, name);
+    let line = added_line(guards, account);
+    lines.insert(place, line)?;
     Ok(())
 }
 
-/// Gives the account of a name its next key, with the next kvno and this salt. One that is disabled stays so. All other lines stay.
+// The line of an account that is added to the lines of a realm that guards its password or doesn't.
+fn added_line(guards: bool, own: AccountLine) -> Line
+    ensures { result ≡ added_line guards own }
+{
+    Line::Account(AccountLine {
+        name: own.name,
+        account: guarded_account(guards, own.account),
+        is_disabled: own.is_disabled,
+    })
+}
+
+/// Gives the account of a name its next key, with the next kvno and this salt. One that is disabled stays so. Where the realm guards
+/// passwords, and the key is of one, the account has the mark that there is no ticket for it as a service. All other lines stay.
 ///
 /// It is refused as `Unknown` if and only if the name has no account, and as `NumberSpent` if and only if its kvno is the greatest.
 pub fn change_key(
@@ -99,7 +116,7 @@ pub fn change_key(
     key: Key,
     salt: Option<OctetStringAsn1>,
 ) -> Result<(), EditRefusal>
-    ensures ok { OnOk result (HasChanged name.now (rekeyed key.suite key.bytes salt) lines.old.items lines.new.items) }
+    ensures ok { OnOk result (HasChanged name.now (rekeyed (guards_password name.now lines.old.items) key.suite key.bytes salt) lines.old.items lines.new.items) }
     ensures unknown { (result ≡ Err EditRefusal.Unknown) ↔ (place_of name.now lines.old.items ≡ None) }
     ensures spent { (result ≡ Err EditRefusal.NumberSpent) ↔ (is_name_spent name.now lines.old.items ≡ true) }
     ensures refusal { IfErr result (λ e. (e ≡ EditRefusal.Unknown) ⊎ (e ≡ EditRefusal.NumberSpent)) }
@@ -108,12 +125,18 @@ pub fn change_key(
     let Some(place) = place_of(lines, name) else {
         return Err(EditRefusal::Unknown);
     };
-    rekey(&mut lines[place], key, salt)
+    let guards = guards_password(lines, name);
+    rekey(guards, &mut lines[place], key, salt)
 }
 
-// Gives the account of a line its next key.
-fn rekey(line: &mut Line, key: Key, salt: Option<OctetStringAsn1>) -> Result<(), EditRefusal>
-    ensures ok { OnOk result (line.new ≡ rekeyed key.suite key.bytes salt line.old) }
+// Gives the account of a line its next key, in a realm that guards its password or doesn't.
+fn rekey(
+    guards: bool,
+    line: &mut Line,
+    key: Key,
+    salt: Option<OctetStringAsn1>,
+) -> Result<(), EditRefusal>
+    ensures ok { OnOk result (line.new ≡ rekeyed guards key.suite key.bytes salt line.old) }
     ensures spent { result ≡ (if is_spent line.old then Err EditRefusal.NumberSpent else Ok tt) }
     ensures err { OnErr result (line.new ≡ line.old) }
 {
@@ -124,8 +147,120 @@ fn rekey(line: &mut Line, key: Key, salt: Option<OctetStringAsn1>) -> Result<(),
     if kvno == u32::MAX {
         return Err(EditRefusal::NumberSpent);
     }
-    own.account = Account::new(key, kvno + 1, salt);
+    let attributes = own.account.attributes().rekeyed();
+    let next = Account::new(key, kvno + 1, salt).with_attributes(attributes);
+    own.account = guarded_account(guards, next);
     Ok(())
+}
+
+/// Gives the account of a name its next key, as [`change_key`] does, and keeps the keys before it. All other lines stay.
+///
+/// It is refused as `Unknown` if and only if the name has no account, and as `NumberSpent` if and only if its kvno is the greatest.
+pub fn keep_key(
+    alloc: Global,
+    lines: &mut Vec<Line>,
+    name: &[GeneralStringAsn1],
+    key: Key,
+    salt: Option<OctetStringAsn1>,
+) -> Result<(), EditRefusal>
+    ensures ok { OnOk result (HasChanged name.now (rekeyed_keeping (guards_password name.now lines.old.items) key.suite key.bytes salt) lines.old.items lines.new.items) }
+    ensures unknown { (result ≡ Err EditRefusal.Unknown) ↔ (place_of name.now lines.old.items ≡ None) }
+    ensures spent { (result ≡ Err EditRefusal.NumberSpent) ↔ (is_name_spent name.now lines.old.items ≡ true) }
+    ensures err { OnErr result (lines.new.items ≡ lines.old.items) }
+{
+    let Some(place) = place_of(lines, name) else {
+        return Err(EditRefusal::Unknown);
+    };
+    let guards = guards_password(lines, name);
+    rekey_keeping(alloc, guards, &mut lines[place], key, salt)
+}
+
+// Gives the account of a line its next key, in a realm that guards its password or doesn't, and keeps the keys before it.
+fn rekey_keeping(
+    alloc: Global,
+    guards: bool,
+    line: &mut Line,
+    key: Key,
+    salt: Option<OctetStringAsn1>,
+) -> Result<(), EditRefusal>
+    ensures ok { OnOk result (line.new ≡ rekeyed_keeping guards key.suite key.bytes salt line.old) }
+    ensures spent { (result ≡ Err EditRefusal.NumberSpent) ↔ (is_spent line.old ≡ true) }
+    ensures refusal { IfErr result (λ e. (e ≡ EditRefusal.NumberSpent) ⊎ (e ≡ EditRefusal.Memory)) }
+    ensures err { OnErr result (line.new ≡ line.old) }
+{
+    let Line::Account(own) = line else {
+        return Ok(());
+    };
+    match own.account.keeping(alloc, key, salt) {
+        Ok(next) => {
+            own.account = guarded_account(guards, next);
+            Ok(())
+        }
+        Err(RealmRefusal::NumberSpent) => Err(EditRefusal::NumberSpent),
+        Err(_) => Err(EditRefusal::Memory),
+    }
+}
+
+/// Takes the keys before its own from the account of a name. All other lines stay. It is refused as `Unknown` if and only if the name has
+/// no account.
+pub fn purge(lines: &mut Vec<Line>, name: &[GeneralStringAsn1]) -> Result<(), EditRefusal>
+    ensures ok { OnOk result (HasChanged name.now purged_line lines.old.items lines.new.items) }
+    ensures refusal { result ≡ staying name.now lines.old.items }
+    ensures err { OnErr result (lines.new.items ≡ lines.old.items) }
+{
+    let Some(place) = place_of(lines, name) else {
+        return Err(EditRefusal::Unknown);
+    };
+    purge_line(&mut lines[place]);
+    Ok(())
+}
+
+fn purge_line(line: &mut Line)
+    ensures { line.new ≡ purged_line line.old }
+{
+    let Line::Account(own) = line else {
+        return;
+    };
+    purge_account(own);
+}
+
+fn purge_account(own: &mut AccountLine)
+    ensures { own.new ≡ record own.old { account = purged own.old.account } }
+{
+    own.account.purge();
+}
+
+/// Gives the account of a name these attributes in place of its own, but never that of the realm's own ticket-granting service. All other
+/// lines stay.
+///
+/// It is refused, in this order: `Unknown`, `KeptAccount`.
+pub fn allow(
+    lines: &mut Vec<Line>,
+    name: &[GeneralStringAsn1],
+    attributes: Attributes,
+) -> Result<(), EditRefusal>
+    ensures ok { OnOk result (HasChanged name.now (allowed_line attributes) lines.old.items lines.new.items) }
+    ensures refusal { result ≡ leaving name.now lines.old.items }
+    ensures err { OnErr result (lines.new.items ≡ lines.old.items) }
+{
+    let place = leaving(lines, name)?;
+    allow_line(&mut lines[place], attributes);
+    Ok(())
+}
+
+fn allow_line(line: &mut Line, attributes: Attributes)
+    ensures { line.new ≡ allowed_line attributes line.old }
+{
+    let Line::Account(own) = line else {
+        return;
+    };
+    allow_account(own, attributes);
+}
+
+fn allow_account(own: &mut AccountLine, attributes: Attributes)
+    ensures { own.new ≡ record own.old { account = record own.old.account { attributes = attributes } } }
+{
+    own.account.set_attributes(attributes);
 }
 
 /// Takes the line of the account of a name away, but never that of the realm's own ticket-granting service. All other lines stay.

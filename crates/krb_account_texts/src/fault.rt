@@ -10,10 +10,10 @@ use thiserror::Error;
 #[derive(Clone, Copy, Debug, PartialEq, Eq, Error)]
 pub enum LineFault {
     /// The line has another number of fields, or four or six of which the first isn't `realm`.
-    #[error("expected name, suite, kvno, salt and key, or realm, name, skew and lifetime, and perhaps words and octets or -, with a tab between each two")]
+    #[error("expected name, suite, kvno, salt and key, and perhaps last second, lifetime, marks and older keys, or realm, name, skew and lifetime, and perhaps words and octets or -, with a tab between each two")]
     Fields,
     /// The fifth of six fields has another word than those of a realm's line, or one twice, or they are in another order.
-    #[error("words: expected some of limits-des3, forwardable, proxiable, renewable=SECONDS, pkinit-agility, pkinit-sha1 and pkinit, in this order, with a comma between each two")]
+    #[error("words: expected some of limits-des3, forwardable, proxiable, renewable=SECONDS, guards-passwords, pkinit-agility, pkinit-sha1 and pkinit, in this order, with a comma between each two")]
     Words,
     /// The greatest renewable life is no number of seconds from one to a year's.
     #[error("renewable: expected a whole number of seconds from 1 to 31536000")]
@@ -42,6 +42,18 @@ pub enum LineFault {
     /// The key isn't as many pairs of hexadecimal digits as its suite's keys have octets.
     #[error("key: expected as many hexadecimal digits as a key of the suite has: 32, 48 or 64")]
     Key,
+    /// The last second of the account is no number of 32 bits.
+    #[error("last second: expected seconds since 1970, from 0 to 4294967295, or - for none")]
+    Ends,
+    /// The greatest lifetime of the account is no number of 32 bits.
+    #[error("lifetime: expected seconds, from 0 to 4294967295, or - for none")]
+    Lifetime,
+    /// The marks of the account are others than those that are known, or in another order.
+    #[error("marks: expected off, must-change and no-service in this order, with a comma between each two, or - for none")]
+    Marks,
+    /// An older key isn't a suite, a kvno and a key, the kvno isn't below that of the key before it, or there are too many of them.
+    #[error("older key: expected suite, kvno and key with a colon between each two, kvnos that fall, and 15 older keys at most")]
+    OlderKey,
     /// The realm's name is none of a realm, or has an octet below 32.
     #[error("realm: expected 1 to 255 printable ASCII characters")]
     RealmName,

@@ -91,7 +91,7 @@ pub(crate) fn life_of(digits: &str) -> Result<u32, LineFault>
 
 /// The number that decimal digits write, if it is below 2^32.
 #[tactic(auto, unfolding(crate::specs::Reading::number_in))]
-fn number_of(digits: &[u8]) -> Option<u64>
+pub(crate) fn number_of(digits: &[u8]) -> Option<u64>
     ensures value { result ≡ number_in digits.now }
     ensures below { IfSome result (λ number. number < NUMBER_LIMIT) }
 {

@@ -15,6 +15,8 @@ pub struct RealmLine {
     pub name: GeneralStringAsn1,
     /// Its clock skew and the greatest lifetime of a ticket.
     pub settings: Settings,
+    /// Whether it guards passwords: there is no ticket as a service for an account that is given a key of a password.
+    pub guards_passwords: bool,
     /// What logins by certificate are answered by, if there are any: DER of the KDC's certificate, of its private key and of the anchor.
     pub pkinit: Option<OctetStringAsn1>,
 }

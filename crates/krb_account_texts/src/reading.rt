@@ -4,7 +4,7 @@ ghost use Rattle.std.specs.List.{slice_split};
 ghost use Rattle.std.specs.Option.{option_map};
 ghost use Rattle.krb_constants.specs.declared.types.TheConstants.{NT_PRINCIPAL};
 ghost use Rattle.krb_account_texts.specs.Lines.{disabled_mark, written};
-ghost use Rattle.krb_account_texts.specs.Reading.{account_in, disabled_of, fields, is_disabled, is_ended, line_in, line_of, lines_in, lines_of, name_in, numbered, realm_by, realm_in};
+ghost use Rattle.krb_account_texts.specs.Reading.{account_in, active_of, disabled_of, fields, has_realm_fields, is_disabled, is_ended, line_in, line_of, lines_in, lines_of, name_in, numbered, realm_by, realm_in, realm_line_of};
 ghost use Rattle.krb_account_texts.specs.Steps.{IsAside, each_from};
 
 use crate::fault::{LineFault, TextFault};
@@ -12,6 +12,7 @@ use crate::fields::{
     kvno_of, name_of, pkinit_of, read_key, realm_name_of_text, salt_of, seconds_of, settings_of,
     suite_of,
 };
+use crate::further::further_of;
 use crate::line::{AccountLine, Line, RealmLine, principal_name};
 use crate::words::{Words, words_of};
 use krb_messages::data_types::PrincipalName;
@@ -118,7 +119,16 @@ fn disabled_of(alloc: Global, fields: &[&str]) -> Result<Line, LineFault>
     ensures { IsAside LineFault.Memory written (disabled_of (map (λ field. field.now) fields.now)) result }
 {
     match fields {
-        [name, suite, kvno, salt, key] => account_of(alloc, true, name, suite, kvno, salt, key),
+        [name, suite, kvno, salt, key, further @ ..] => {
+            let start = AccountStart {
+                name,
+                suite,
+                kvno,
+                salt,
+                key,
+            };
+            account_of(alloc, true, start, further)
+        }
         _ => Err(LineFault::DisabledFields),
     }
 }
@@ -136,6 +146,23 @@ pub(crate) fn is_comment(text: &[u8]) -> bool
 // The line of these fields.
 fn line_of(alloc: Global, fields: &[&str]) -> Result<Line, LineFault>
     ensures { IsAside LineFault.Memory written (line_of (map (λ field. field.now) fields.now)) result }
+{
+    if has_realm_fields(fields) {
+        return realm_line_of(alloc, fields);
+    }
+    active_of(alloc, fields)
+}
+
+// Whether there are as many fields as the realm's line has.
+fn has_realm_fields(fields: &[&str]) -> bool
+    ensures { result ≡ has_realm_fields (map (λ field. field.now) fields.now) }
+{
+    fields.len() == 4 || fields.len() == 6
+}
+
+// The realm's line of these fields.
+fn realm_line_of(alloc: Global, fields: &[&str]) -> Result<Line, LineFault>
+    ensures { IsAside LineFault.Memory written (realm_line_of (map (λ field. field.now) fields.now)) result }
 {
     match fields {
         [word, name, skew, lifetime] => {
@@ -156,9 +183,37 @@ fn line_of(alloc: Global, fields: &[&str]) -> Result<Line, LineFault>
             };
             realm_with(alloc, start, Further { words, digits })
         }
-        [name, suite, kvno, salt, key] => account_of(alloc, false, name, suite, kvno, salt, key),
         _ => Err(LineFault::Fields),
     }
+}
+
+// The line of an account of these fields.
+fn active_of(alloc: Global, fields: &[&str]) -> Result<Line, LineFault>
+    ensures { IsAside LineFault.Memory written (active_of (map (λ field. field.now) fields.now)) result }
+{
+    match fields {
+        [name, suite, kvno, salt, key, further @ ..] => {
+            let start = AccountStart {
+                name,
+                suite,
+                kvno,
+                salt,
+                key,
+            };
+            account_of(alloc, false, start, further)
+        }
+        _ => Err(LineFault::Fields),
+    }
+}
+
+// The first five fields of an account's line.
+#[derive(Clone, Copy)]
+struct AccountStart<'a> {
+    name: &'a str,
+    suite: &'a str,
+    kvno: &'a str,
+    salt: &'a str,
+    key: &'a str,
 }
 
 // The first four fields of a realm's line.
@@ -170,7 +225,7 @@ struct RealmStart<'a> {
     lifetime: &'a str,
 }
 
-// What follows in a realm's line: the words of policy and logins by certificate, and what these are answered by.
+// What follows in a realm's line: the words of policy, guarded passwords and logins by certificate, and what these are answered by.
 #[derive(Clone, Copy)]
 struct Further<'a> {
     words: &'a str,
@@ -182,7 +237,7 @@ fn plain_realm_of(alloc: Global, start: RealmStart<'_>) -> Result<Line, LineFaul
     ensures { IsAside LineFault.Memory written (line_of (start.entry.word.now ∷ start.entry.name.now ∷ start.entry.skew.now ∷ start.entry.lifetime.now ∷ [])) result }
 {
     if start.word == "realm" {
-        return realm_of(alloc, start, NO_POLICY, None);
+        return realm_of(alloc, start, NO_POLICY, false, None);
     }
     Err(LineFault::Fields)
 }
@@ -208,11 +263,12 @@ fn realm_by(
 ) -> Result<Line, LineFault>
     ensures { IsAside LineFault.Memory written (realm_by start.entry.name.now start.entry.skew.now start.entry.lifetime.now digits.now words) result }
 {
+    let guards = words.guards_passwords;
     if words.is_certified {
-        return realm_of(alloc, start, words.policy, Some(digits));
+        return realm_of(alloc, start, words.policy, guards, Some(digits));
     }
     if digits == "-" {
-        return realm_of(alloc, start, words.policy, None);
+        return realm_of(alloc, start, words.policy, guards, None);
     }
     Err(LineFault::NoPkinit)
 }
@@ -222,10 +278,11 @@ fn realm_of(
     alloc: Global,
     start: RealmStart<'_>,
     policy: Policy,
+    guards: bool,
     digits: Option<&str>,
 ) -> Result<Line, LineFault>
     ensures { IsAside LineFault.Memory written
-        (realm_in start.entry.name.now start.entry.skew.now start.entry.lifetime.now policy (option_map (λ digits. digits.now) digits.entry)) result }
+        (realm_in start.entry.name.now start.entry.skew.now start.entry.lifetime.now policy guards (option_map (λ digits. digits.now) digits.entry)) result }
 {
     let name = realm_name_of_text(alloc, start.name)?;
     let skew = seconds_of(start.skew)?;
@@ -235,6 +292,7 @@ fn realm_of(
     Ok(Line::Realm(RealmLine {
         name,
         settings: settings.with_policy(policy),
+        guards_passwords: guards,
         pkinit,
     }))
 }
@@ -243,20 +301,19 @@ fn realm_of(
 fn account_of(
     alloc: Global,
     is_disabled: bool,
-    name: &str,
-    suite: &str,
-    kvno: &str,
-    salt: &str,
-    key: &str,
+    start: AccountStart<'_>,
+    further: &[&str],
 ) -> Result<Line, LineFault>
-    ensures { IsAside LineFault.Memory written (account_in is_disabled name.now suite.now kvno.now salt.now key.now) result }
+    ensures { IsAside LineFault.Memory written
+        (account_in is_disabled start.entry.name.now start.entry.suite.now start.entry.kvno.now start.entry.salt.now start.entry.key.now (map (λ field. field.now) further.now)) result }
 {
-    let name = read_name(alloc, name)?;
-    let suite = suite_of(suite)?;
-    let kvno = kvno_of(kvno)?;
-    let salt = salt_of(alloc, salt)?;
-    let key = read_key(alloc, suite, key)?;
-    let account = Account::new(key, kvno, salt);
+    let name = read_name(alloc, start.name)?;
+    let suite = suite_of(start.suite)?;
+    let kvno = kvno_of(start.kvno)?;
+    let salt = salt_of(alloc, start.salt)?;
+    let key = read_key(alloc, suite, start.key)?;
+    let further = further_of(alloc, kvno, further)?;
+    let account = Account::of_keys(key, kvno, salt, further.former, further.attributes);
     Ok(Line::Account(AccountLine {
         name,
         account,

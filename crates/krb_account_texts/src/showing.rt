@@ -2,8 +2,9 @@
 ghost use Rattle.std.specs.Prelude.{◌≡◌, ◌∷◌, ◌++◌, [], map, nat_lt, string_bytes, IfOk, OnOk};
 ghost use Rattle.std.specs.Option.{option_map};
 ghost use Rattle.krb_messages.specs.NameText.{name_text};
-ghost use Rattle.krb_account_texts.specs.Lines.{account_fields, account_text, before, further_by, further_text, guarded, line_text, realm_text, renewable_word, salt_text, text_of, words_text, written};
+ghost use Rattle.krb_account_texts.specs.Lines.{account_fields, account_text, before, further_by, further_text, guarded, last_words, line_text, realm_text, renewable_word, salt_text, text_of, words_text, written};
 
+use crate::further::further_fields;
 use crate::line::{AccountLine, Line, RealmLine};
 use crate::reading::is_comment;
 use krb_messages::data_types::PrincipalName;
@@ -43,12 +44,13 @@ pub fn line_text(alloc: Global, line: &Line) -> Result<String, AllocError>
 }
 
 fn realm_text(alloc: Global, line: &RealmLine) -> Result<String, AllocError>
-    ensures { IfOk result (λ text. string_bytes text ≡ realm_text line.now.name line.now.settings line.now.pkinit) }
+    ensures { IfOk result (λ text. string_bytes text ≡ realm_text line.now.name line.now.settings line.now.guards_passwords line.now.pkinit) }
 {
     let name = &line.name;
     let skew = line.settings.skew();
     let lifetime = line.settings.lifetime();
-    let further = further_text(alloc, line.settings.policy(), &line.pkinit)?;
+    let policy = line.settings.policy();
+    let further = further_text(alloc, policy, line.guards_passwords, &line.pkinit)?;
     format!(in alloc; "realm\t{name}\t{skew}\t{lifetime}{further}")
 }
 
@@ -56,11 +58,12 @@ fn realm_text(alloc: Global, line: &RealmLine) -> Result<String, AllocError>
 fn further_text(
     alloc: Global,
     policy: Policy,
+    guards: bool,
     pkinit: &Option<OctetStringAsn1>,
 ) -> Result<String, AllocError>
-    ensures { IfOk result (λ text. string_bytes text ≡ further_text policy pkinit.now) }
+    ensures { IfOk result (λ text. string_bytes text ≡ further_text policy guards pkinit.now) }
 {
-    let words = words_text(alloc, policy, pkinit.is_some())?;
+    let words = words_text(alloc, policy, guards, pkinit.is_some())?;
     let digits = digits_text(alloc, pkinit)?;
     further_by(alloc, words, digits)
 }
@@ -85,18 +88,36 @@ fn digits_text(alloc: Global, octets: &Option<OctetStringAsn1>) -> Result<String
     }
 }
 
-// The words of policy and of logins by certificate.
+// The words of policy, of guarded passwords and of logins by certificate.
 #[tactic(auto, unfolding(crate::specs::Lines::words_text))]
-fn words_text(alloc: Global, policy: Policy, is_certified: bool) -> Result<String, AllocError>
-    ensures { IfOk result (λ text. string_bytes text ≡ words_text policy is_certified) }
+fn words_text(
+    alloc: Global,
+    policy: Policy,
+    guards: bool,
+    is_certified: bool,
+) -> Result<String, AllocError>
+    ensures { IfOk result (λ text. string_bytes text ≡ words_text policy guards is_certified) }
 {
-    let text = before(alloc, is_certified, "pkinit", String::new(alloc))?;
-    let text = before(alloc, policy.pkinit_sha1, "pkinit-sha1", text)?;
-    let text = before(alloc, policy.pkinit_agility, "pkinit-agility", text)?;
+    let text = last_words(alloc, policy, guards, is_certified)?;
     let text = before_life(alloc, policy.renewable_life, text)?;
     let text = before(alloc, policy.proxiable, "proxiable", text)?;
     let text = before(alloc, policy.forwardable, "forwardable", text)?;
     before(alloc, policy.limits_des3, "limits-des3", text)
+}
+
+// The words of guarded passwords and of logins by certificate.
+fn last_words(
+    alloc: Global,
+    policy: Policy,
+    guards: bool,
+    is_certified: bool,
+) -> Result<String, AllocError>
+    ensures { IfOk result (λ text. string_bytes text ≡ last_words policy guards is_certified) }
+{
+    let text = before(alloc, is_certified, "pkinit", String::new(alloc))?;
+    let text = before(alloc, policy.pkinit_sha1, "pkinit-sha1", text)?;
+    let text = before(alloc, policy.pkinit_agility, "pkinit-agility", text)?;
+    before(alloc, guards, "guards-passwords", text)
 }
 
 // The word of a greatest renewable life before a text of words, if there is such a life.
@@ -140,7 +161,8 @@ fn account_fields(alloc: Global, line: &AccountLine) -> Result<String, AllocErro
     let kvno = line.account.kvno();
     let salt = salt_text(alloc, line.account.salt())?;
     let key = hex::encode(alloc, line.account.key().as_bytes())?;
-    format!(in alloc; "{name}\t{suite}\t{kvno}\t{salt}\t{key}")
+    let further = further_fields(alloc, &line.account)?;
+    format!(in alloc; "{name}\t{suite}\t{kvno}\t{salt}\t{key}{further}")
 }
 
 // The text of a name where a line begins.

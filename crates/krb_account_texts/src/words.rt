@@ -1,7 +1,7 @@
-//! The words of policy and of logins by certificate in a realm's line.
+//! The words of policy, of guarded passwords and of logins by certificate in a realm's line.
 ghost use Rattle.std.specs.Prelude.{◌≡◌, ◌==◌, true, false, drop, length, map, IfOk, MatchOption};
 ghost use Rattle.std.specs.List.{slice_split};
-ghost use Rattle.krb_account_texts.specs.Reading.{agile, certified, forwarded, if_may, is_renewable, limited, may_be_agile, may_certify, may_forward, may_limit, may_proxy, may_renew, may_take_sha1, next_words, no_words, proxied, renewable_mark, renewed, with_life, with_sha1, words_behind, words_in};
+ghost use Rattle.krb_account_texts.specs.Reading.{agile, certified, forwarded, guarding, if_may, is_renewable, limited, may_be_agile, may_certify, may_forward, may_guard, may_limit, may_proxy, may_renew, may_take_sha1, next_words, no_words, proxied, renewable_mark, renewed, with_life, with_sha1, words_behind, words_in};
 ghost use Rattle.krb_account_texts.specs.Steps.{IsAside};
 
 use crate::fault::LineFault;
@@ -14,6 +14,8 @@ use std::alloc::{AllocError, Global};
 pub(crate) struct Words {
     /// The policy.
     pub(crate) policy: Policy,
+    /// Whether passwords are guarded.
+    pub(crate) guards_passwords: bool,
     /// Whether logins by certificate are answered.
     pub(crate) is_certified: bool,
 }
@@ -40,6 +42,7 @@ fn words_among(parts: &[&str]) -> Result<Words, LineFault>
 {
     let mut words = Words {
         policy: NO_POLICY,
+        guards_passwords: false,
         is_certified: false,
     };
     for part in parts {
@@ -61,6 +64,9 @@ fn next_words(words: Words, word: &str) -> Result<Words, LineFault>
     }
     if word == "proxiable" {
         return if_may(may_proxy(words), proxied(words));
+    }
+    if word == "guards-passwords" {
+        return if_may(may_guard(words), guarding(words));
     }
     if word == "pkinit-agility" {
         return if_may(may_be_agile(words), agile(words));
@@ -109,11 +115,18 @@ fn may_be_agile(words: Words) -> bool
     !words.policy.pkinit_agility && may_take_sha1(words)
 }
 
+// The same of the word `guards-passwords`.
+fn may_guard(words: Words) -> bool
+    ensures { result ≡ may_guard words }
+{
+    !words.guards_passwords && may_be_agile(words)
+}
+
 // The same of the word of a greatest renewable life.
 fn may_renew(words: Words) -> bool
     ensures { result ≡ may_renew words }
 {
-    words.policy.renewable_life == 0 && may_be_agile(words)
+    words.policy.renewable_life == 0 && may_guard(words)
 }
 
 // The same of the word `proxiable`.
@@ -168,6 +181,16 @@ fn proxied(words: Words) -> Words
         ..words.policy
     };
     Words { policy, ..words }
+}
+
+// The words with `guards-passwords`.
+fn guarding(words: Words) -> Words
+    ensures { result ≡ guarding words }
+{
+    Words {
+        guards_passwords: true,
+        ..words
+    }
 }
 
 // The words with `pkinit-agility`.

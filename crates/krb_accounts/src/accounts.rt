@@ -6,7 +6,7 @@ use crate::texts::finish_text;
 use crate::warnings::{RealmKey, Stream, is_service, warn_of_account, warn_of_realm};
 use krb_account_texts::{
     AccountLine, EditRefusal, Line, RealmLine, add, can_be_typed, change_key, disable, enable,
-    place_of, principal_name, realm_among, remove,
+    keep_key, place_of, principal_name, purge, realm_among, remove,
 };
 use krb_commands::{
     FileKind, Stop, account_among, begin, begin_first, lines_of, realm_of, refused,
@@ -118,6 +118,7 @@ fn realm_line(alloc: Global, name: &str) -> Result<RealmLine, Stop> {
     Ok(RealmLine {
         name,
         settings: settings.with_policy(NEW_POLICY),
+        guards_passwords: false,
         pkinit: None,
     })
 }
@@ -131,6 +132,8 @@ struct Given<'a> {
     path: &'a str,
     name: PrincipalName,
     input: KeyInput,
+    /// Whether the keys before stay.
+    keeps: bool,
 }
 
 // What these arguments and standard input give to a command that expects `command`.
@@ -150,12 +153,18 @@ fn given_of<'a>(
         path: path.as_str(),
         name,
         input,
+        keeps: options.keeps,
     })
 }
 
-/// `add [-e SUITE] [-k [random]] TEXT NAME`: adds an account, with kvno 1.
+/// `add [-e SUITE] [-k [random]] TEXT NAME`: adds an account, with kvno 1. Where the realm guards passwords, one with a password is no
+/// service.
 pub(crate) fn add_account(rt: &HostRuntime, arguments: &[String]) -> Result<(), Stop> {
-    let given = given_of(rt, "add [-e SUITE] [-k [random]] TEXT NAME", arguments)?;
+    let command = "add [-e SUITE] [-k [random]] TEXT NAME";
+    let given = given_of(rt, command, arguments)?;
+    if given.keeps {
+        return Err(expected(rt.alloc(), command));
+    }
     let new_file = begin(rt, given.path, FileKind::Accounts, &[])?;
     let lines = added(rt, given);
     finish_text(rt, new_file, lines)
@@ -251,9 +260,11 @@ fn told_secret(alloc: Global, given: &Given<'_>, key: &Key) -> Result<Secret, Al
     }
 }
 
-/// `key [-e SUITE] [-k [random]] TEXT NAME`: gives an account its next key, with the next kvno.
+/// `key [-e SUITE] [-k [random]] [--keep] TEXT NAME`: gives an account its next key, with the next kvno. With `--keep`, and for the realm's
+/// ticket-granting service, the keys before stay. Where the realm guards passwords, an account with a password is no service then.
 pub(crate) fn change_account(rt: &HostRuntime, arguments: &[String]) -> Result<(), Stop> {
-    let given = given_of(rt, "key [-e SUITE] [-k [random]] TEXT NAME", arguments)?;
+    let command = "key [-e SUITE] [-k [random]] [--keep] TEXT NAME";
+    let given = given_of(rt, command, arguments)?;
     let new_file = begin(rt, given.path, FileKind::Accounts, &[])?;
     let lines = changed(rt, &given);
     finish_text(rt, new_file, lines)
@@ -262,10 +273,33 @@ pub(crate) fn change_account(rt: &HostRuntime, arguments: &[String]) -> Result<(
 fn changed(rt: &HostRuntime, given: &Given<'_>) -> Result<Vec<Line>, Stop> {
     let mut lines = lines_of(rt, given.path)?;
     let salted = next_key(rt, given, &lines)?;
-    let components = given.name.name_string.0.as_slice();
-    match change_key(&mut lines, components, salted.key, salted.salt) {
+    match put_key(rt.alloc(), &mut lines, given, salted) {
         Ok(()) => Ok(lines),
         Err(refusal) => Err(refusal_of(rt.alloc(), &given.name, refusal)),
+    }
+}
+
+// Gives the account its next key. The ticket-granting service keeps the keys before, so that its tickets stay good.
+fn put_key(
+    alloc: Global,
+    lines: &mut Vec<Line>,
+    given: &Given<'_>,
+    salted: SaltedKey,
+) -> Result<(), EditRefusal> {
+    let components = given.name.name_string.0.as_slice();
+    let keeps = given.keeps || is_granting(lines, &given.name);
+    if keeps {
+        keep_key(alloc, lines, components, salted.key, salted.salt)
+    } else {
+        change_key(lines, components, salted.key, salted.salt)
+    }
+}
+
+// Whether a name is that of the ticket-granting service of the realm of these lines.
+fn is_granting(lines: &[Line], name: &PrincipalName) -> bool {
+    match realm_among(lines) {
+        Some(realm) => is_service(realm.name.as_bytes(), name),
+        None => false,
     }
 }
 
@@ -289,6 +323,8 @@ pub(crate) enum Edit {
     Disable,
     /// It is enabled.
     Enable,
+    /// The keys before its own are taken away.
+    Purge,
 }
 
 impl Edit {
@@ -298,6 +334,7 @@ impl Edit {
             Edit::Remove => "remove TEXT NAME",
             Edit::Disable => "disable TEXT NAME",
             Edit::Enable => "enable TEXT NAME",
+            Edit::Purge => "purge TEXT NAME",
         }
     }
 
@@ -306,11 +343,13 @@ impl Edit {
             Edit::Remove => remove(lines, name),
             Edit::Disable => disable(lines, name),
             Edit::Enable => enable(lines, name),
+            Edit::Purge => purge(lines, name),
         }
     }
 }
 
-/// `remove TEXT NAME`, `disable TEXT NAME` and `enable TEXT NAME`: takes an account away, disables it or enables it.
+/// `remove TEXT NAME`, `disable TEXT NAME`, `enable TEXT NAME` and `purge TEXT NAME`: takes an account away, disables it, enables it, or
+/// takes the keys before its own away.
 pub(crate) fn edit_account(rt: &HostRuntime, edit: Edit, arguments: &[String]) -> Result<(), Stop> {
     let [path, name] = arguments else {
         return Err(expected(rt.alloc(), edit.command()));

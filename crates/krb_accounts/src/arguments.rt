@@ -24,6 +24,8 @@ pub(crate) struct Options {
     pub(crate) suite: Option<CipherSuite>,
     /// Where the key comes from.
     pub(crate) source: KeySource,
+    /// `--keep`: the keys before stay.
+    pub(crate) keeps: bool,
 }
 
 // What the last argument was, which says what the next one may be.
@@ -39,6 +41,7 @@ pub(crate) fn options_of(alloc: Global, words: &[String]) -> Result<(Options, &[
     let mut options = Options {
         suite: None,
         source: KeySource::Password,
+        keeps: false,
     };
     let mut last = Last::Other;
     for (index, word) in words.iter().enumerate() {
@@ -67,6 +70,10 @@ fn put_option(
     }
     match word {
         "-e" => Ok(Some(Last::Suite)),
+        "--keep" => {
+            options.keeps = true;
+            Ok(Some(Last::Other))
+        }
         "-k" => {
             options.source = KeySource::Digits;
             Ok(Some(Last::Key))

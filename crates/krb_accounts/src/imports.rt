@@ -167,6 +167,7 @@ fn realm_of(
         Ok(settings) => Ok(RealmLine {
             name,
             settings,
+            guards_passwords: false,
             pkinit: None,
         }),
         Err(_) => Err(source.breaks(rt, Place::File, Rule::Range)),

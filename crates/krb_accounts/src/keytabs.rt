@@ -6,14 +6,15 @@ use crate::texts::finish;
 use krb_account_texts::{AccountLine, EditRefusal, Line};
 use krb_commands::{FileKind, Stop, account_among, begin, keytab_in, lines_of, realm_of, refused};
 use krb_constants::types::NT_PRINCIPAL;
+use krb_crypto::Key;
 use krb_file_formats::{Keytab, KeytabRecord, KeytabWriteFault};
 use krb_messages::is_same_name;
 use picky_asn1::wrapper::GeneralStringAsn1;
 use std::alloc::{AllocError, Global};
 use std::time::{SystemTime, UNIX_EPOCH};
 
-/// `keytab TEXT KEYTAB NAME..`: writes the keys of these accounts to a keytab. What the keytab has already is kept, but for keys of the
-/// same name, kvno and etype.
+/// `keytab TEXT KEYTAB NAME..`: writes all keys of these accounts to a keytab, those before their own too. What the keytab has already is
+/// kept, but for keys of the same name, kvno and etype.
 pub(crate) fn keytab(rt: &HostRuntime, arguments: &[String]) -> Result<(), Stop> {
     let [path, keytab, _, ..] = arguments else {
         return Err(expected(rt.alloc(), "keytab TEXT KEYTAB NAME.."));
@@ -53,7 +54,7 @@ fn records_of(
     let realm = realm_of(rt, path, lines)?;
     let mut records = kept(rt, old)?;
     for name in names {
-        put_record(rt, &mut records, &realm.name, lines, name.as_str())?;
+        put_records(rt, &mut records, &realm.name, lines, name.as_str())?;
     }
     Ok(records)
 }
@@ -76,8 +77,8 @@ fn kept(rt: &HostRuntime, old: Option<&str>) -> Result<Vec<KeytabRecord>, Stop> 
     Ok(keytab.into_records())
 }
 
-// Puts the key of the account of a name at the end, in place of one of the same kvno and etype.
-fn put_record(
+// Puts the keys of the account of a name at the end, the oldest first.
+fn put_records(
     rt: &HostRuntime,
     records: &mut Vec<KeytabRecord>,
     realm: &GeneralStringAsn1,
@@ -85,7 +86,29 @@ fn put_record(
     name: &str,
 ) -> Result<(), Stop> {
     let own = account_named(rt.alloc(), lines, name)?;
-    let record = record_of(rt, realm, own)?;
+    for older in own.account.former().iter().rev() {
+        put_record(rt, records, realm, own, older.kvno(), older.key())?;
+    }
+    put_record(
+        rt,
+        records,
+        realm,
+        own,
+        own.account.kvno(),
+        own.account.key(),
+    )
+}
+
+// Puts a key of an account at the end, in place of one of the same kvno and etype.
+fn put_record(
+    rt: &HostRuntime,
+    records: &mut Vec<KeytabRecord>,
+    realm: &GeneralStringAsn1,
+    own: &AccountLine,
+    kvno: u32,
+    key: &Key,
+) -> Result<(), Stop> {
+    let record = record_of(rt, realm, own, kvno, key)?;
     records.retain(|other| !is_same_key(other, &record));
     records.push(record)?;
     Ok(())
@@ -108,6 +131,8 @@ fn record_of(
     rt: &HostRuntime,
     realm: &GeneralStringAsn1,
     own: &AccountLine,
+    kvno: u32,
+    key: &Key,
 ) -> Result<KeytabRecord, AllocError> {
     let alloc = rt.alloc();
     Ok(KeytabRecord::new(
@@ -115,9 +140,9 @@ fn record_of(
         copy_of(alloc, own.name.name_string.0.as_slice())?,
         u32::from(NT_PRINCIPAL),
         seconds_now(rt),
-        own.account.kvno(),
-        u16::from(u8::from(own.account.suite())),
-        Vec::from_slice(alloc, own.account.key().as_bytes())?,
+        kvno,
+        u16::from(u8::from(key.suite())),
+        Vec::from_slice(alloc, key.as_bytes())?,
     ))
 }
 

@@ -2,11 +2,15 @@
 
 use crate::accounts::refusal_of;
 use crate::arguments::{expected, name_of};
-use krb_account_texts::{AccountLine, EditRefusal, Line, Pattern, RealmLine, salt_text};
+use krb_account_texts::{
+    AccountLine, EditRefusal, Line, Pattern, RealmLine, marks_text, salt_text,
+};
 use krb_commands::{Stop, account_among, failed, lines_of, printable_of};
 use krb_messages::data_types::PrincipalName;
-use krb_realm_accounts::{Account, Policy};
+use krb_realm_accounts::{Account, Attributes, Policy};
 use krb_settings::suite_name;
+use krb_time::LAST_SECOND;
+use picky_asn1::date::GeneralizedTime;
 use std::alloc::{AllocError, Global};
 use std::fmt::Display;
 use std::io::IsTerminal;
@@ -14,9 +18,9 @@ use std::io::IsTerminal;
 /// What is above the accounts at a terminal. What isn't one gets no header, so that programs read lines of accounts alone.
 const HEADER: &str = "name\tsuite\tkvno\tkey\n";
 
-/// `list TEXT [PATTERN]`: prints the realm, its policy, and whether it answers logins by certificate. It prints each account's name, suite,
-/// kvno, whether its key is of a password, and whether it is disabled. With a pattern, it prints the accounts whose names it matches, and no
-/// realm.
+/// `list TEXT [PATTERN]`: prints the realm, its policy, and whether it guards passwords and answers logins by certificate. It prints each
+/// account's name, suite, kvno, whether its key is of a password, how many older keys it keeps, its attributes, and whether it is disabled.
+/// With a pattern, it prints the accounts whose names it matches, and no realm.
 pub(crate) fn list(rt: &HostRuntime, arguments: &[String]) -> Result<(), Stop> {
     match arguments {
         [path] => print_listed(rt, path.as_str(), None),
@@ -108,8 +112,9 @@ fn realm_listed(alloc: Global, realm: &RealmLine) -> Result<String, AllocError> 
     let skew = realm.settings.skew();
     let lifetime = realm.settings.lifetime();
     let policy = policy_listed(alloc, realm.settings.policy())?;
+    let guards = word_if(realm.guards_passwords, "\tguards-passwords");
     let further = word_if(realm.pkinit.is_some(), "\tpkinit");
-    format!(in alloc; "realm\t{name}\t{skew}\t{lifetime}{policy}{further}\n")
+    format!(in alloc; "realm\t{name}\t{skew}\t{lifetime}{policy}{guards}{further}\n")
 }
 
 // The words of a policy, each behind a tab.
@@ -136,8 +141,79 @@ fn account_listed(alloc: Global, own: &AccountLine) -> Result<String, AllocError
     let suite = suite_name(own.account.suite());
     let kvno = own.account.kvno();
     let kind = kind_of(&own.account);
+    let older = older_listed(alloc, &own.account)?;
+    let attributes = attributes_listed(alloc, own.account.attributes())?;
     let further = if own.is_disabled { "\tdisabled" } else { "" };
-    format!(in alloc; "{name}\t{suite}\t{kvno}\t{kind}{further}\n")
+    format!(in alloc; "{name}\t{suite}\t{kvno}\t{kind}{older}{attributes}{further}\n")
+}
+
+// How many older keys an account keeps, if it keeps any.
+fn older_listed(alloc: Global, account: &Account) -> Result<String, AllocError> {
+    let count = account.former().len();
+    if count == 0 {
+        return Ok(String::new(alloc));
+    }
+    format!(in alloc; "\tolder={count}")
+}
+
+// The attributes that are set.
+fn attributes_listed(alloc: Global, attributes: Attributes) -> Result<String, AllocError> {
+    let ends = if attributes.ends == 0 {
+        String::new(alloc)
+    } else {
+        let ends = ends_shown(alloc, attributes)?;
+        format!(in alloc; "\tends={ends}")?
+    };
+    let lifetime = if attributes.lifetime == 0 {
+        String::new(alloc)
+    } else {
+        let lifetime = attributes.lifetime;
+        format!(in alloc; "\tlifetime={lifetime}")?
+    };
+    let marks = marks_listed(alloc, attributes)?;
+    format!(in alloc; "{ends}{lifetime}{marks}")
+}
+
+// The marks that are set.
+fn marks_listed(alloc: Global, attributes: Attributes) -> Result<String, AllocError> {
+    let marks = marks_text(attributes);
+    if marks == "-" {
+        return Ok(String::new(alloc));
+    }
+    format!(in alloc; "\t{marks}")
+}
+
+// The last second of an account, or `-`.
+fn ends_shown(alloc: Global, attributes: Attributes) -> Result<String, AllocError> {
+    if attributes.ends == 0 {
+        return String::from_str(alloc, "-");
+    }
+    let time = GeneralizedTime::from_seconds(attributes.ends.min(LAST_SECOND));
+    format!(in alloc; "{time}")
+}
+
+// The greatest lifetime of an account, or `-`.
+fn lifetime_shown(alloc: Global, attributes: Attributes) -> Result<String, AllocError> {
+    if attributes.lifetime == 0 {
+        return String::from_str(alloc, "-");
+    }
+    let lifetime = attributes.lifetime;
+    format!(in alloc; "{lifetime}")
+}
+
+// The kvnos of the keys before an account's own, the newest first, or `-`.
+fn older_shown(alloc: Global, account: &Account) -> Result<String, AllocError> {
+    let [first, others @ ..] = account.former() else {
+        return String::from_str(alloc, "-");
+    };
+    let kvno = first.kvno();
+    let mut text = format!(in alloc; "{kvno}")?;
+    for older in others {
+        let kvno = older.kvno();
+        let further = format!(in alloc; ",{kvno}")?;
+        text.push_str(further.as_str())?;
+    }
+    Ok(text)
 }
 
 // Whether an account's key was made of a password: one that has a salt was.
@@ -178,7 +254,20 @@ fn account_shown(alloc: Global, own: &AccountLine) -> Result<String, AllocError>
     } else {
         "enabled"
     };
+    let further = further_shown(alloc, &own.account)?;
     format!(in alloc;
-        "name\t{name}\nsuite\t{suite}\nkvno\t{kvno}\nkey\t{kind}\nsalt\t{salt}\nstate\t{state}\n"
+        "name\t{name}\nsuite\t{suite}\nkvno\t{kvno}\nkey\t{kind}\nsalt\t{salt}\nstate\t{state}\n{further}"
+    )
+}
+
+// What an account has beside its key.
+fn further_shown(alloc: Global, account: &Account) -> Result<String, AllocError> {
+    let attributes = account.attributes();
+    let older = older_shown(alloc, account)?;
+    let ends = ends_shown(alloc, attributes)?;
+    let lifetime = lifetime_shown(alloc, attributes)?;
+    let marks = marks_text(attributes);
+    format!(in alloc;
+        "older keys\t{older}\nends\t{ends}\nlifetime\t{lifetime}\nattributes\t{marks}\n"
     )
 }

@@ -16,6 +16,7 @@
 
 mod accounts;
 mod arguments;
+mod attributes;
 mod certificates;
 mod database;
 mod imports;
@@ -44,7 +45,10 @@ const USAGE: &str = "usage:
                                                       the accounts whose names are as PATTERN alone
   krb_accounts show TEXT NAME                         prints what TEXT says of one account, but not its key
   krb_accounts add [-e SUITE] [-k [random]] TEXT NAME adds an account, with kvno 1
-  krb_accounts key [-e SUITE] [-k [random]] TEXT NAME gives an account its next key, with the next kvno
+  krb_accounts key [-e SUITE] [-k [random]] [--keep] TEXT NAME
+                                                      gives an account its next key, with the next kvno, and keeps the keys before
+  krb_accounts purge TEXT NAME                        takes the keys before its own from an account
+  krb_accounts attributes TEXT NAME WORD..            changes when an account ends, how long its tickets last, and what it may do
   krb_accounts disable TEXT NAME                      keeps an account in TEXT, and out of the database
   krb_accounts enable TEXT NAME                       takes a disabled account into the database again
   krb_accounts remove TEXT NAME                       takes an account away
@@ -59,11 +63,14 @@ const USAGE: &str = "usage:
 Standard input is one line: the password, or with -k and for create the key in hexadecimal digits. With -k random it isn't read: the key is
 made of the system's random octets. NAME is as in host/server.example.com. In PATTERN * is for any characters, / too, and ? for one.
 SUITE is a name such as aes256-cts-hmac-sha1-96, which is also that of create and add if none is given. key keeps the account's suite.
+Without --keep it takes the keys before away, but for krbtgt, whose keys before open its tickets. WORD is ends=YYYYMMDDHHMMSSZ or
+lifetime=SECONDS, with - for none, or +off, +must-change or +no-service, with - in place of + to take it away.
 CERTIFICATE, KEY and ANCHOR are files, in PEM or DER. KEY has at least 2,048 bits, and is not encrypted.
 The realm's policy is set in TEXT by an editor: behind skew and lifetime, with a tab between each two, the realm's line has the words and -,
-or with the word pkinit what certify writes. The words are limits-des3, forwardable, proxiable, renewable=SECONDS, pkinit-agility,
-pkinit-sha1 and pkinit, in this order, with a comma between each two. SECONDS, from 1 to 31536000, is how long a ticket may be renewed.
-What has no word is off.";
+or with the word pkinit what certify writes. The words are limits-des3, forwardable, proxiable, renewable=SECONDS, guards-passwords,
+pkinit-agility, pkinit-sha1 and pkinit, in this order, with a comma between each two. SECONDS, from 1 to 31536000, is how long a ticket
+may be renewed. With guards-passwords add and key set +no-service where the key is of a password: nobody gets a ticket then by which to
+guess it. What has no word is off.";
 
 fn main(rt: HostRuntime) -> ExitCode {
     match run(&rt) {
@@ -94,6 +101,8 @@ fn run_command(rt: &HostRuntime, command: &str, rest: &[String]) -> Result<(), S
         "disable" => accounts::edit_account(rt, Edit::Disable, rest),
         "enable" => accounts::edit_account(rt, Edit::Enable, rest),
         "remove" => accounts::edit_account(rt, Edit::Remove, rest),
+        "purge" => accounts::edit_account(rt, Edit::Purge, rest),
+        "attributes" => attributes::attributes(rt, rest),
         "certify" => certificates::certify(rt, rest),
         "uncertify" => certificates::uncertify(rt, rest),
         "keytab" => keytabs::keytab(rt, rest),

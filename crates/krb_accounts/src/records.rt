@@ -225,7 +225,7 @@ pub(crate) fn unwritten(alloc: Global, path: &str, fault: WriteFault) -> Stop {
         WriteFault::Unsound => refused(
             alloc,
             format_args!(
-                "{path}: expected salts of at most 8100 octets, and at most {PKINIT_ROOM} octets behind pkinit"
+                "{path}: expected salts of at most 7500 octets, and at most {PKINIT_ROOM} octets behind pkinit"
             ),
         ),
     }

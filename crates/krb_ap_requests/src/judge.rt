@@ -101,8 +101,8 @@ fn is_for(realm: &GeneralStringAsn1, name: &[GeneralStringAsn1], ticket: &Ticket
         && is_same_name(ticket.sname.0.name_string.0.as_slice(), name)
 }
 
-// Whether the data has this kvno, or none.
-fn kvno_fits(kvno: u32, encrypted: &EncryptedData) -> bool
+/// Whether the data has this kvno, or none.
+pub fn kvno_fits(kvno: u32, encrypted: &EncryptedData) -> bool
     ensures { result ≡ kvno_fits kvno encrypted.now }
 {
     match &encrypted.kvno.0 {

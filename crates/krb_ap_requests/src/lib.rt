@@ -12,7 +12,7 @@ mod refusal;
 
 pub use judge::{
     check_authenticator, check_fields, check_presented, check_recipient, check_ticket, check_times,
-    enc_part_in, open_ticket, starttime_of,
+    enc_part_in, kvno_fits, open_ticket, starttime_of,
 };
 pub use messages::read_ap_req;
 pub use presented::{Authenticated, Presented};

@@ -13,7 +13,7 @@ use Rattle.krb_messages.specs.Messages.{IsAsReq, IsTgsReq}
 use Rattle.krb_messages.specs.declared.messages.ap_req.ApReqInner.{ApReqInner}
 use Rattle.krb_messages.specs.declared.messages.kdc_req.KdcReq.{KdcReq}
 use Rattle.krb_messages.specs.declared.messages.kdc_req_body.KdcReqBody.{KdcReqBody}
-use Rattle.krb_realm_accounts.specs.Account.{AccountRecord}
+use Rattle.krb_realm_accounts.specs.Account.{AccountKeyRecord, AccountRecord}
 use Rattle.krb_realm_accounts.specs.Accounts.{Look}
 use Rattle.decision_tables.specs.Tables.{Table, and_then, done, need, refuse}
 use Rattle.krb_kdc_exchanges.specs.Rows.{PkinitRows}
@@ -24,7 +24,9 @@ use Rattle.krb_ap_requests.specs.ApTable.{ap_fields, opened_part, timely}
 use Rattle.krb_ap_requests.specs.declared.presented.Authenticated.{Authenticated}
 use Rattle.krb_ap_requests.proofs.Chosen.{needed}
 use Rattle.krb_ap_requests.proofs.Shown.{both, ok_same}
+use Rattle.krb_kdc_exchanges.specs.Allowed.{first_allowed, further_allowed, lifetime_of, limited}
 use Rattle.krb_kdc_exchanges.specs.Call.{skew_of}
+use Rattle.krb_kdc_exchanges.specs.ChosenKeys.{chosen}
 use Rattle.krb_kdc_exchanges.specs.Granting.{replied}
 use Rattle.krb_kdc_exchanges.specs.Requests.{account_of, body_of, client_of, has_refused_option, header_rows, is_ended, IsSpan, lasting, service_of}
 use Rattle.krb_kdc_exchanges.specs.Options.{asked_options}
@@ -34,7 +36,7 @@ use Rattle.krb_kdc_exchanges.specs.declared.span.Span.{Span}
 use Rattle.krb_kdc_exchanges.specs.AsTable.{as_table, authenticated, is_later, is_listed, possible}
 use Rattle.krb_kdc_exchanges.specs.Grants.{Principals, granted, initial_grant}
 use Rattle.krb_kdc_exchanges.specs.ByTicket.{IsByTicket}
-use Rattle.krb_kdc_exchanges.specs.TgsTable.{authenticated_near, by_options, carried, client_and_times, covered, first_granted, further, further_grant, further_in, further_lasting, further_replied, further_till, has_account, of_authenticated, of_carried, of_ticket, reply_key, subkey_in, tgs_granted, tgs_table, ticket_granting, to_us, without_des3}
+use Rattle.krb_kdc_exchanges.specs.TgsTable.{authenticated_near, by_options, carried, client_and_times, covered, first_granted, further, further_grant, further_in, further_lasting, further_replied, further_till, of_authenticated, of_carried, of_ticket, reply_key, subkey_in, tgs_granted, tgs_table, ticket_granting, to_us, without_des3}
 use Rattle.krb_kdc_exchanges.proofs.ByTicket.{by_padata, by_ticket}
 use Rattle.krb_kdc_exchanges.proofs.Written.{header_realm}
 use Rattle.krb_kdc_exchanges.specs.Errors.{error_of}
@@ -73,9 +75,18 @@ module _ (rows : PkinitRows) (exchange : ExchangeRecord) (request : KdcReq) (rea
   to_grant asked span =
       and_then (authenticated exchange.call rows asked.client (components asked.client_name) request) (λ under. granted exchange.call asked under span request.req_body.0)
 
+  -- how long a ticket lasts at most
+  abbrev lifetime : Principals → Seconds
+  lifetime asked = lifetime_of exchange.call.settings.lifetime asked.client asked.service
+
+  abbrev to_be_possible : Principals → Table (Result Bytes ℕ)
+  to_be_possible asked = and_then (possible exchange.call (lifetime asked) asked.client.suite request.req_body.0) (to_grant asked)
+
+  abbrev to_be_allowed : Principals → Table (Result Bytes ℕ)
+  to_be_allowed asked = and_then {A = Unit {0}} (first_allowed exchange.call.moment asked) (λ _. to_be_possible asked)
+
   abbrev by_service : PrincipalName → AccountRecord → PrincipalName → AccountRecord → Table (Result Bytes ℕ)
-  by_service client_name client service_name service =
-      and_then (possible exchange.call client.suite request.req_body.0) (to_grant (asked_by client_name client service_name service))
+  by_service client_name client service_name service = to_be_allowed (asked_by client_name client service_name service)
 
   abbrev by_service_name : PrincipalName → AccountRecord → PrincipalName → Table (Result Bytes ℕ)
   by_service_name client_name client service_name = need of_service 7 (by_service client_name client service_name)
@@ -92,10 +103,9 @@ module _ (rows : PkinitRows) (exchange : ExchangeRecord) (request : KdcReq) (rea
   abbrev in_suite : CipherSuite → Span → Table (Result Span ℕ)
   in_suite suite span = refuse (not (is_listed suite request.req_body.0)) 14 (done (Ok span))
 
-  possible_span : (suite : CipherSuite) (span : Span) → (possible exchange.call suite request.req_body.0).gives (Ok span)
-      → IsSpan exchange.call.settings.lifetime exchange.call.moment None (seconds_of request.req_body.0.till.0.0) span
-  possible_span suite span x =
-      let lifetime = exchange.call.settings.lifetime in
+  possible_span : (lifetime : Seconds) (suite : CipherSuite) (span : Span) → (possible exchange.call lifetime suite request.req_body.0).gives (Ok span)
+      → IsSpan lifetime exchange.call.moment None (seconds_of request.req_body.0.till.0.0) span
+  possible_span lifetime suite span x =
       let own = passes {T = Span} (is_later exchange.call request.req_body.0) 10 (and_then (lasting lifetime exchange.call.moment None request.req_body.0) (in_suite suite)) span x in
       let parts = both {A = Span} {T = Span} (lasting lifetime exchange.call.moment None request.req_body.0) (in_suite suite) span own.1 in
       let last = passes {T = Span} (not (is_listed suite request.req_body.0)) 14 (done (Ok parts.0)) span parts.2 in
@@ -111,7 +121,8 @@ module _ (rows : PkinitRows) (exchange : ExchangeRecord) (request : KdcReq) (rea
       let d = needed {A = PrincipalName} {T = Bytes} (service_of request.req_body.0) 7 (by_service_name b.0 c.0) exchange.reply c.2 in
       let e = needed {A = AccountRecord} {T = Bytes} of_service 7 (by_service b.0 c.0 d.0) exchange.reply d.2 in
       let asked : Principals = asked_by b.0 c.0 d.0 e.0 in
-      let f = both {A = Span} {T = Bytes} (possible exchange.call c.0.suite request.req_body.0) (to_grant asked) exchange.reply e.2 in
+      let i = both {A = Unit {0}} {T = Bytes} (first_allowed exchange.call.moment asked) (λ _. to_be_possible asked) exchange.reply e.2 in
+      let f = both {A = Span} {T = Bytes} (possible exchange.call (lifetime asked) c.0.suite request.req_body.0) (to_grant asked) exchange.reply i.2 in
       let g = both {A = ReplyKeyRecord} {T = Bytes} (authenticated exchange.call rows c.0 (components b.0) request) (λ under. granted exchange.call asked under f.0 request.req_body.0) exchange.reply f.2 in
       let till : Option GeneralizedTime = g.2.0 in
       let grant : GrantRecord = initial_grant exchange.call asked request.req_body.0 f.0 till in
@@ -124,8 +135,9 @@ module _ (rows : PkinitRows) (exchange : ExchangeRecord) (request : KdcReq) (rea
         client_found = account_named exchange.call.look (client_of request.req_body.0) b.0 c.0 b.1 c.1;
         service_named = d.1;
         service_found = account_named exchange.call.look (service_of request.req_body.0) d.0 e.0 d.1 e.1;
+        allowed = i.1;
         span = f.0;
-        lasts = possible_span c.0.suite f.0 f.1;
+        lasts = possible_span (lifetime asked) c.0.suite f.0 f.1;
         authenticates = g.1;
         till = till;
         renews = g.2.1;
@@ -145,8 +157,9 @@ module _ (exchange : ExchangeRecord) where
       → is_same_realm part.crealm.0 exchange.call.realm ≡ true
   ticket_realm granting ap_req part x =
       let sealed = ap_req.ticket.0.0.enc_part.0 in
-      let fields = both {A = Unit {0}} {T = EncTicketPartInner} (ap_fields exchange.call.realm (krbtgt_of exchange.call.realm) granting.kvno ap_req) (λ _. and_then (opened_part granting.suite granting.key sealed) realm_row) part x in
-      let opened = both {A = EncTicketPartInner} {T = EncTicketPartInner} (opened_part granting.suite granting.key sealed) realm_row part fields.2 in
+      let key : AccountKeyRecord = chosen sealed granting in
+      let fields = both {A = Unit {0}} {T = EncTicketPartInner} (ap_fields exchange.call.realm (krbtgt_of exchange.call.realm) key.kvno ap_req) (λ _. and_then (opened_part key.suite key.key sealed) realm_row) part x in
+      let opened = both {A = EncTicketPartInner} {T = EncTicketPartInner} (opened_part key.suite key.key sealed) realm_row part fields.2 in
       let own = both {A = Unit {0}} {T = EncTicketPartInner} (client_and_times exchange.call opened.0) (λ _. done (Ok opened.0)) part opened.2 in
       let realm = passes {T = Unit {0}} (not (is_same_realm opened.0.crealm.0 exchange.call.realm)) 68 (timely (skew_of exchange.call) exchange.call.moment opened.0) tt own.1 in
       subst (λ (p : EncTicketPartInner). is_same_realm p.crealm.0 exchange.call.realm ≡ true) (sym (ok_same part opened.0 own.2)) (is_so (is_same_realm opened.0.crealm.0 exchange.call.realm) realm.0)
@@ -177,18 +190,25 @@ module _ (exchange : ExchangeRecord) where
     abbrev to_service : PrincipalName → AccountRecord → Table (Result Bytes ℕ)
     to_service name service = further exchange.call part shown name service request.req_body.0
 
-    abbrev to_named : PrincipalName → Table (Result Bytes ℕ)
-    to_named name = need (exchange.call.look (components name)) 7 (to_service name)
+    abbrev to_be_unrevoked : AccountRecord → PrincipalName → AccountRecord → Table (Result Bytes ℕ)
+    to_be_unrevoked client name service = and_then {A = Unit {0}} (further_allowed exchange.call.moment client service) (λ _. to_service name service)
+
+    abbrev to_named : AccountRecord → PrincipalName → Table (Result Bytes ℕ)
+    to_named client name = need (exchange.call.look (components name)) 7 (to_be_unrevoked client name)
+
+    abbrev to_client : AccountRecord → Table (Result Bytes ℕ)
+    to_client client = need (service_of request.req_body.0) 7 (to_named client)
 
     further_granted : (is : IsByTicket exchange.call request ap_req part) → is_same_realm part.crealm.0 exchange.call.realm ≡ true → (authenticated_near exchange.call part ap_req).gives (Ok shown)
         → (of_authenticated exchange.call request.req_body.0 part shown).gives (Ok exchange.reply) → (grant : GrantRecord) × (service : AccountRecord) × IsGranted rows exchange grant service
     further_granted ticket of_realm authenticates x =
-        let lifetime = exchange.call.settings.lifetime in
         let a = both {A = Unit {0}} {T = Bytes} (covered shown.suite part.key.0.key_value.0 shown.authenticator request.req_body.0) (λ _. tgs_granted exchange.call part shown request.req_body.0) exchange.reply x in
-        let b = passes {T = Bytes} (not (has_account exchange.call part.cname.0)) 6 (need (service_of request.req_body.0) 7 to_named) exchange.reply a.2 in
-        let c = needed {A = PrincipalName} {T = Bytes} (service_of request.req_body.0) 7 to_named exchange.reply b.1 in
-        let d = needed {A = AccountRecord} {T = Bytes} (exchange.call.look (components c.0)) 7 (to_service c.0) exchange.reply c.2 in
-        let o = both {A = Unit {0}} {T = Bytes} (by_options exchange.call asked_for part c.0) (λ _. further_in asked_for.renews exchange.call part shown c.0 d.0 request.req_body.0) exchange.reply d.2 in
+        let b = needed {A = AccountRecord} {T = Bytes} (exchange.call.look (components part.cname.0)) 6 to_client exchange.reply a.2 in
+        let c = needed {A = PrincipalName} {T = Bytes} (service_of request.req_body.0) 7 (to_named b.0) exchange.reply b.2 in
+        let d = needed {A = AccountRecord} {T = Bytes} (exchange.call.look (components c.0)) 7 (to_be_unrevoked b.0 c.0) exchange.reply c.2 in
+        let i = both {A = Unit {0}} {T = Bytes} (further_allowed exchange.call.moment b.0 d.0) (λ _. to_service c.0 d.0) exchange.reply d.2 in
+        let lifetime = limited d.0 exchange.call.settings.lifetime in
+        let o = both {A = Unit {0}} {T = Bytes} (by_options exchange.call asked_for part c.0) (λ _. further_in asked_for.renews exchange.call part shown c.0 d.0 request.req_body.0) exchange.reply i.2 in
         let e = both {A = Span} {T = Bytes} (further_lasting asked_for.renews lifetime exchange.call.moment part request.req_body.0) (to_suite c.0 d.0) exchange.reply o.2 in
         let f = needed {A = CipherSuite} {T = Bytes} (first_granted (without_des3 exchange.call part d.0) request.req_body.0.etype.0) 14 (to_key c.0 d.0 e.0) exchange.reply e.2 in
         let g = needed {A = ReplyKeyRecord} {T = Bytes} key 31 (to_seal c.0 d.0 e.0 f.0) exchange.reply f.2 in
@@ -207,6 +227,9 @@ module _ (exchange : ExchangeRecord) where
           service_name = c.0;
           service_named = c.1;
           service_found = d.1;
+          client = b.0;
+          client_found = b.1;
+          unrevoked = i.1;
           options = asked_for;
           allows = refl;
           allowed = o.1;

@@ -1,12 +1,16 @@
 -- Each ticket goes back to an AS exchange, in which the realm authenticated its client.
-use Rattle.std.proofs.Common.{◌≡◌, List, [], ◌∷◌, Some, refl, sym, ap, subst, ◌∙◌, inl, inr}
+use Rattle.std.proofs.Common.{◌≡◌, Bool, true, false, List, [], ◌∷◌, Option, None, Some, if◌then◌else◌, refl, sym, ap, subst, ◌∙◌, inl, inr}
+use Rattle.std.specs.List.{find}
 use Rattle.asn1_leaves.specs.GeneralizedTime.{seconds_of}
 use Rattle.asn1_leaves.specs.declared.date.GeneralizedTime.{GeneralizedTime}
 use Rattle.picky_asn1.specs.Bytes.{Bytes}
 use Rattle.krb_messages.specs.TicketGranting.{krbtgt_of}
 use Rattle.krb_messages.specs.declared.data_types.enc_ticket_part.EncTicketPartInner.{EncTicketPartInner}
+use Rattle.krb_messages.specs.declared.data_types.encrypted_data.EncryptedData.{EncryptedData}
 use Rattle.krb_messages.specs.declared.data_types.principal_name.PrincipalName.{PrincipalName}
-use Rattle.krb_realm_accounts.specs.Account.{AccountRecord}
+use Rattle.krb_realm_accounts.specs.Account.{AccountKeyRecord, AccountRecord, keys_of}
+use Rattle.krb_ap_requests.specs.ApTable.{kvno_fits}
+use Rattle.krb_kdc_exchanges.specs.ChosenKeys.{chosen, or_newest}
 use Rattle.krb_kdc_exchanges.specs.Rows.{PkinitRows}
 use Rattle.krb_tickets.specs.Grant.{GrantRecord}
 use Rattle.krb_tickets.specs.Parts.{ticket_part}
@@ -57,6 +61,23 @@ abbrev pub AreTraced : PkinitRows → List Bytes → SentRecord → List Exchang
 AreTraced rows keys sent exchanges = (exchange : ExchangeRecord) → IsAmong exchange exchanges → (grant : GrantRecord) (service : AccountRecord) → IsGranted rows exchange grant service
     → WasAuthenticated rows keys exchanges sent grant.realm grant.client grant.auth_time
 
+-- the chosen key is one of the account's
+by_test : (test : AccountKeyRecord → Bool) (first : AccountKeyRecord) (others : List AccountKeyRecord) (found : AccountKeyRecord) (passes : Bool)
+    → (if passes then Some first else find test others) ≡ Some found → (find test others ≡ Some found → IsAmong found others) → IsAmong found (first ∷ others)
+by_test test first others found true e behind = let same : first ≡ found = cc (e) in inl (sym same)
+by_test test first others found false e behind = inr (behind e)
+
+found_among : (test : AccountKeyRecord → Bool) (keys : List AccountKeyRecord) (found : AccountKeyRecord) → find test keys ≡ Some found → IsAmong found keys
+found_among test [] found e = absurd (cc (e))
+found_among test (first ∷ others) found e = by_test test first others found (test first) e (found_among test others found)
+
+chosen_among : (encrypted : EncryptedData) (account : AccountRecord) → IsAmong (chosen encrypted account) (keys_of account)
+chosen_among encrypted account = by (find (λ own. kvno_fits own.kvno encrypted) (keys_of account)) refl
+  where
+    by : (found : Option AccountKeyRecord) → find (λ own. kvno_fits own.kvno encrypted) (keys_of account) ≡ found → IsAmong (or_newest account found) (keys_of account)
+    by None e = inl refl
+    by (Some own) e = found_among (λ own. kvno_fits own.kvno encrypted) (keys_of account) own e
+
 module _ (rows : PkinitRows) (keys : List Bytes) (sent : SentRecord) (newest : ExchangeRecord) (before : List ExchangeRecord) (unforged : IsUnforged rows keys before sent (RealmOpens newest)) where
   by_first : (grant : GrantRecord) (under : ReplyKeyRecord) (service : AccountRecord) → IsFirst rows newest grant under service
       → WasAuthenticated rows keys (newest ∷ before) sent grant.realm grant.client grant.auth_time
@@ -73,7 +94,7 @@ module _ (rows : PkinitRows) (keys : List Bytes) (sent : SentRecord) (newest : E
     shown = was_shown rows keys before sent newest unforged grant under service is;
   }
 
-  module _ (kept : (granting : AccountRecord) → newest.call.look (krbtgt_of newest.call.realm) ≡ Some granting → IsAmong granting.key keys) (traced : AreTraced rows keys sent before) where
+  module _ (kept : (granting : AccountRecord) → newest.call.look (krbtgt_of newest.call.realm) ≡ Some granting → (own : AccountKeyRecord) → IsAmong own (keys_of granting) → IsAmong own.key keys) (traced : AreTraced rows keys sent before) where
     -- the client of the presented ticket, and its authtime, are those of the grant
     of_ticket : (grant : GrantRecord) (under : ReplyKeyRecord) (service : AccountRecord) (is : IsFurther newest grant under service) (older : ExchangeRecord) → IsAmong older before → (c : CiphertextRecord)
         → (made : IsTicketOf rows older c) → is.part ≡ ticket_part made.grant → WasAuthenticated rows keys before sent grant.realm grant.client grant.auth_time
@@ -89,10 +110,12 @@ module _ (rows : PkinitRows) (keys : List Bytes) (sent : SentRecord) (newest : E
     by_further : (grant : GrantRecord) (under : ReplyKeyRecord) (service : AccountRecord) → IsFurther newest grant under service → WasAuthenticated rows keys (newest ∷ before) sent grant.realm grant.client grant.auth_time
     by_further grant under service is =
         let granting : AccountRecord = is.ticket.granting in
-        let cipher : Bytes = is.ap_req.ticket.0.0.enc_part.0.cipher.0 in
-        let c : CiphertextRecord = ticket_under granting.suite granting.key cipher in
-        let made = ticket_made rows before sent granting.suite granting.key cipher
-        (unforged c (inr (inl (record { asked = is.asked; read = is.read; ap_req = is.ap_req; part = is.part; by = is.ticket; is = refl }))) (kept granting is.ticket.account)) in
+        let sealed : EncryptedData = is.ap_req.ticket.0.0.enc_part.0 in
+        let own : AccountKeyRecord = chosen sealed granting in
+        let cipher : Bytes = sealed.cipher.0 in
+        let c : CiphertextRecord = ticket_under own.suite own.key cipher in
+        let made = ticket_made rows before sent own.suite own.key cipher
+        (unforged c (inr (inl (record { asked = is.asked; read = is.read; ap_req = is.ap_req; part = is.part; by = is.ticket; is = refl }))) (kept granting is.ticket.account own (chosen_among sealed granting))) in
         later rows keys newest before sent grant.realm grant.client grant.auth_time
         (of_ticket grant under service is made.0 made.1 c made.2 (ticket_of_grant rows made.0 c is.part is.ticket.opens.opens made.2))
 
@@ -111,5 +134,5 @@ pub all_traced : (rows : PkinitRows) (keys : List Bytes) (sent : SentRecord) (ex
     → AreTraced rows keys sent exchanges
 all_traced rows keys sent [] unforged kept = λ exchange among grant service is. absurd among
 all_traced rows keys sent (newest ∷ before) unforged kept =
-    one_more rows keys sent newest before unforged.0 (λ granting found. kept newest (inl refl) granting found)
-    (all_traced rows keys sent before unforged.1 (λ exchange among granting found. kept exchange (inr among) granting found))
+    one_more rows keys sent newest before unforged.0 (λ granting found own has. kept newest (inl refl) granting found own has)
+    (all_traced rows keys sent before unforged.1 (λ exchange among granting found own has. kept exchange (inr among) granting found own has))

@@ -13,11 +13,12 @@ use Rattle.krb_messages.specs.declared.data_types.authenticator.AuthenticatorInn
 use Rattle.krb_messages.specs.declared.data_types.enc_ticket_part.EncTicketPartInner.{EncTicketPartInner}
 use Rattle.krb_messages.specs.declared.data_types.encrypted_data.EncryptedData.{EncryptedData}
 use Rattle.krb_messages.specs.declared.data_types.principal_name.PrincipalName.{PrincipalName}
+use Rattle.krb_messages.specs.declared.data_types.ticket.TicketInner.{TicketInner}
 use Rattle.krb_messages.specs.Messages.{IsApReq, IsAsReq, IsTgsReq, ap_req_tree, enc_ticket_part-injective, enc_ticket_part_tree, sole_ap_req, sole_as_req, sole_tgs_req}
 use Rattle.krb_messages.specs.declared.messages.ap_req.ApReqInner.{ApReqInner}
 use Rattle.krb_messages.specs.declared.messages.kdc_req.KdcReq.{KdcReq}
 use Rattle.krb_messages.specs.declared.messages.kdc_req_body.KdcReqBody.{KdcReqBody}
-use Rattle.krb_realm_accounts.specs.Account.{AccountRecord}
+use Rattle.krb_realm_accounts.specs.Account.{AccountKeyRecord, AccountRecord}
 use Rattle.krb_tickets.specs.Sealing.{encrypted_by}
 use Rattle.krb_kdc_exchanges.specs.Rows.{PkinitRows}
 use Rattle.krb_messages.specs.Padata.{first_of, first_padata, padata_in}
@@ -26,6 +27,7 @@ use Rattle.krb_ap_requests.specs.Entry.{EntryRecord}
 use Rattle.krb_ap_requests.specs.Presents.{Choice, Presents, request_of}
 use Rattle.krb_kdc_exchanges.specs.Requests.{client_of}
 use Rattle.krb_kdc_exchanges.specs.ByTicket.{IsByTicket}
+use Rattle.krb_kdc_exchanges.specs.ChosenKeys.{chosen}
 use Rattle.krb_client.specs.AsRequest.{as_body_with, as_request_of}
 use Rattle.krb_client.specs.Authenticators.{IsApRequest, ap_request_of}
 use Rattle.krb_client.specs.Client.{CredentialRecord}
@@ -210,8 +212,12 @@ module _ (rows : PkinitRows) (before : List ExchangeRecord) (sent : SentRecord) 
   abbrev own_further : KdcReq
   own_further = further_request_with further.client further.suites further.options further.service further.till (nonce_of further.words) shown_bytes
 
+  -- the key for which the ticket was encrypted
+  abbrev own_key : Bytes
+  own_key = (chosen further.credential.ticket.enc_part.0 h.granting).key
+
   abbrev own_shown : ApReqInner
-  own_shown = own_request rows before h.granting.key further.credential h.by 7 false h.is_sent.asks.authenticates.authenticator further_confounder shown_bytes further_asks
+  own_shown = own_request rows before own_key further.credential h.by 7 false h.is_sent.asks.authenticates.authenticator further_confounder shown_bytes further_asks
 
   read_further : IsTgsReq exchange.request own_further
   read_further =
@@ -225,28 +231,38 @@ module _ (rows : PkinitRows) (before : List ExchangeRecord) (sent : SentRecord) 
       let same = sole_tgs_req exchange.request asked own_further is read_further in
       let value = same_bytes by.value shown_bytes (sym by.first ∙ ap (λ (q : KdcReq). first_of 1 (padata_in q)) same ∙ own_ap_req shown_bytes) in (
         sole_ap_req shown_bytes ap_req own_shown (subst (λ v. IsApReq v ap_req) value by.read)
-            (read_so rows before h.granting.key further.credential h.by 7 false h.is_sent.asks.authenticates.authenticator further_confounder shown_bytes further_asks),
+            (read_so rows before own_key further.credential h.by 7 false h.is_sent.asks.authenticates.authenticator further_confounder shown_bytes further_asks),
         same_account by.granting h.granting (sym by.account ∙ h.found),
       )
+
+  -- it is the key that the realm opens it by
+  same_key : (ap_req : ApReqInner) (granting : AccountRecord) → ap_req ≡ own_shown → granting ≡ h.granting → (chosen ap_req.ticket.0.0.enc_part.0 granting).key ≡ own_key
+  unfolding ticket_of
+  same_key ap_req granting same account =
+      let sealed : ap_req.ticket.0.0.enc_part.0 ≡ further.credential.ticket.enc_part.0 =
+      ap (λ (r : ApReqInner). r.ticket.0.0.enc_part.0) same ∙ sym h.by.granted.replied.ticket_sealed.told ∙ sym (ap (λ (t : TicketInner). t.enc_part.0) h.by.ticket) in
+      λ i. (chosen (sealed i) (account i)).key
 
   ticket_made : (c : CiphertextRecord) → OpensTicket exchange c → IsMade rows before sent c
   ticket_made c t =
       let same = carries t.asked t.ap_req t.part t.read t.by in
-      let keys = ap (λ (a : AccountRecord). a.key) same.1 in
+      let keys = same_key t.ap_req t.by.granting same.0 same.1 in
+      let opening : AccountKeyRecord = chosen t.ap_req.ticket.0.0.enc_part.0 t.by.granting in
       let cipher : Bytes = t.ap_req.ticket.0.0.enc_part.0.cipher.0 in
-      let own : ticket_under t.by.granting.suite t.by.granting.key cipher ≡ ticket_under t.by.granting.suite h.granting.key cipher = λ i. ticket_under t.by.granting.suite (keys i) cipher in
-      let ticket = of_ticket rows before h.granting.key further.credential h.by 7 false h.is_sent.asks.authenticates.authenticator further_confounder shown_bytes further_asks t.ap_req same.0 t.by.granting.suite t.by.opens.numbered in
+      let own : ticket_under opening.suite opening.key cipher ≡ ticket_under opening.suite own_key cipher = λ i. ticket_under opening.suite (keys i) cipher in
+      let ticket = of_ticket rows before own_key further.credential h.by 7 false h.is_sent.asks.authenticates.authenticator further_confounder shown_bytes further_asks t.ap_req same.0 opening.suite t.by.opens.numbered in
       inl (h.by.exchange, h.by.among, record { grant = h.by.grant; service = h.by.account; granted = h.by.granted; is = t.is ∙ own ∙ ticket })
 
   authenticator_made : (c : CiphertextRecord) → OpensAuthenticator exchange c → IsMade rows before sent c
   authenticator_made c t =
       let same = carries t.asked t.ap_req t.part t.read t.by in
-      let keys = ap (λ (a : AccountRecord). a.key) same.1 in
+      let keys = same_key t.ap_req t.by.granting same.0 same.1 in
+      let opening : AccountKeyRecord = chosen t.ap_req.ticket.0.0.enc_part.0 t.by.granting in
       let cipher : Bytes = t.ap_req.ticket.0.0.enc_part.0.cipher.0 in
-      let opens = subst (λ k. OpensTo {T = EncTicketPartInner} enc_ticket_part_tree (ticket_under t.by.granting.suite k cipher) t.part) keys t.by.opens.opens in
-      let session = of_session rows before h.granting.key further.credential h.by 7 false h.is_sent.asks.authenticates.authenticator further_confounder shown_bytes further_asks t.ap_req same.0 t.by.granting.suite t.by.opens.numbered t.part opens in
-      let suites = of_suite rows before h.granting.key further.credential h.by 7 false h.is_sent.asks.authenticates.authenticator further_confounder shown_bytes further_asks t.ap_req same.0 t.suite t.opens.numbered in
-      let ciphers = of_cipher rows before h.granting.key further.credential h.by 7 false h.is_sent.asks.authenticates.authenticator further_confounder shown_bytes further_asks t.ap_req same.0 in
+      let opens = subst (λ k. OpensTo {T = EncTicketPartInner} enc_ticket_part_tree (ticket_under opening.suite k cipher) t.part) keys t.by.opens.opens in
+      let session = of_session rows before own_key further.credential h.by 7 false h.is_sent.asks.authenticates.authenticator further_confounder shown_bytes further_asks t.ap_req same.0 opening.suite t.by.opens.numbered t.part opens in
+      let suites = of_suite rows before own_key further.credential h.by 7 false h.is_sent.asks.authenticates.authenticator further_confounder shown_bytes further_asks t.ap_req same.0 t.suite t.opens.numbered in
+      let ciphers = of_cipher rows before own_key further.credential h.by 7 false h.is_sent.asks.authenticates.authenticator further_confounder shown_bytes further_asks t.ap_req same.0 in
       let own : granting_under t.suite t.part.key.0.key_value.0 t.ap_req.authenticator.0.cipher.0 ≡ granting_under further.credential.suite further.credential.key further_asks.part.cipher.0 =
       λ i. granting_under (suites i) (session i) (ciphers i) in
       inr (inr (inl (further, h.among, record { sent = h.is_sent; is = t.is ∙ own })))

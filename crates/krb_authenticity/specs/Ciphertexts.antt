@@ -1,7 +1,7 @@
 -- The ciphertexts that parties of a run open, and those that parties made. No one else forged one.
 use Rattle.std.specs.Prelude.{◌≡◌, ◌⊎◌, ℕ, List, [], ◌∷◌, Some}
 use Rattle.picky_asn1.specs.Bytes.{Bytes}
-use Rattle.krb_realm_accounts.specs.Account.{AccountRecord}
+use Rattle.krb_realm_accounts.specs.Account.{AccountKeyRecord, AccountRecord, keys_of}
 use Rattle.krb_constants.specs.KeyUsages.{key_usage}
 use Rattle.krb_constants.specs.declared.key_usages.TheConstants.{AP_REP_ENC, AP_REQ_AUTHENTICATOR, AS_REP_ENC, AS_REQ_TIMESTAMP, TGS_REP_ENC_SESSION_KEY, TGS_REQ_PA_DATA_AP_REQ_AUTHENTICATOR, TICKET_REP}
 use Rattle.krb_constants.specs.declared.padata_types.TheConstants.{PA_ENC_TIMESTAMP}
@@ -30,6 +30,7 @@ use Rattle.krb_ap_requests.specs.Presents.{Choice, Presents}
 use Rattle.krb_kdc_exchanges.specs.Requests.{body_of, client_of}
 use Rattle.krb_messages.specs.Padata.{first_of, padata_in}
 use Rattle.krb_kdc_exchanges.specs.ByTicket.{IsByTicket}
+use Rattle.krb_kdc_exchanges.specs.ChosenKeys.{chosen}
 use Rattle.krb_client.specs.ApReply.{IsApPart}
 use Rattle.krb_client.specs.AsReply.{IsAsPart}
 use Rattle.krb_client.specs.Asked.{ApAskedRecord, TgsAskedRecord}
@@ -69,6 +70,10 @@ further_reply_under suite key cipher = record { suite = suite; key = key; usage 
 abbrev pub ap_reply_under : CipherSuite → Bytes → Bytes → CiphertextRecord
 ap_reply_under suite key cipher = record { suite = suite; key = key; usage = key_usage AP_REP_ENC; cipher = cipher }
 
+-- as a ticket's part under a key of an account
+abbrev pub ticket_under_key : AccountKeyRecord → Bytes → CiphertextRecord
+ticket_under_key own cipher = ticket_under own.suite own.key cipher
+
 -- ---- what parties open
 
 -- the encrypted timestamp of an AS-REQ, under the key of the client's account
@@ -85,14 +90,14 @@ pub record OpensTimestamp (exchange : ExchangeRecord) (ciphertext : CiphertextRe
   pub opens : IsEncryptedTimestamp account value timestamp
   pub is : ciphertext ≡ timestamp_under account.suite account.key opens.sealed.cipher.0
 
--- the ticket of a TGS-REQ, under the key of the ticket-granting service
+-- the ticket of a TGS-REQ, under the key of the ticket-granting service that has its kvno
 pub record OpensTicket (exchange : ExchangeRecord) (ciphertext : CiphertextRecord) : Type 0 where
   pub asked : KdcReq
   pub read : IsTgsReq exchange.request asked
   pub ap_req : ApReqInner
   pub part : EncTicketPartInner
   pub by : IsByTicket exchange.call asked ap_req part
-  pub is : ciphertext ≡ ticket_under by.granting.suite by.granting.key (enc_part_in ap_req).cipher.0
+  pub is : ciphertext ≡ ticket_under_key (chosen (enc_part_in ap_req) by.granting) (enc_part_in ap_req).cipher.0
 
 -- and its authenticator, under the session key of that ticket
 pub record OpensAuthenticator (exchange : ExchangeRecord) (ciphertext : CiphertextRecord) : Type 0 where
@@ -195,13 +200,13 @@ abbrev pub AreUnforged : PkinitRows → List Bytes → SentRecord → List Excha
 AreUnforged rows keys sent [] = Unit {0}
 AreUnforged rows keys sent (exchange ∷ before) = IsUnforged rows keys before sent (RealmOpens exchange) × AreUnforged rows keys sent before
 
--- the key of the ticket-granting service is one of these in each exchange
+-- each key that the ticket-granting service has in an exchange is one of these
 abbrev pub IsGrantingKept : List Bytes → List ExchangeRecord → Type 0
 IsGrantingKept keys exchanges =
     (exchange : ExchangeRecord) → IsAmong exchange exchanges → (granting : AccountRecord)
-    → exchange.call.look (krbtgt_of exchange.call.realm) ≡ Some granting → IsAmong granting.key keys
+    → exchange.call.look (krbtgt_of exchange.call.realm) ≡ Some granting → (own : AccountKeyRecord) → IsAmong own (keys_of granting) → IsAmong own.key keys
 
--- no ciphertext was forged in the realm's exchanges, and the key of its ticket-granting service is one of these
+-- no ciphertext was forged in the realm's exchanges, and each key of its ticket-granting service is one of these
 pub record IsRealmUnforged (rows : PkinitRows) (keys : List Bytes) (exchanges : List ExchangeRecord) (sent : SentRecord) : Type 0 where
   pub opens : AreUnforged rows keys sent exchanges
   pub granting_kept : IsGrantingKept keys exchanges

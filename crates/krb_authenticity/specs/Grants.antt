@@ -17,6 +17,7 @@ use Rattle.krb_tickets.specs.Grant.{GrantRecord}
 use Rattle.krb_tickets.specs.Granted.{IsTicketReply}
 use Rattle.krb_tickets.specs.ReplyKeys.{ReplyKeyRecord}
 use Rattle.krb_ap_requests.specs.declared.presented.Authenticated.{Authenticated}
+use Rattle.krb_kdc_exchanges.specs.Allowed.{first_allowed, further_allowed, lifetime_of, limited}
 use Rattle.krb_kdc_exchanges.specs.Options.{asked_options}
 use Rattle.krb_kdc_exchanges.specs.declared.options.AskedOptions.{AskedOptions}
 use Rattle.krb_kdc_exchanges.specs.Renewals.{IsTill}
@@ -28,7 +29,8 @@ use Rattle.krb_kdc_exchanges.specs.ByTicket.{IsByTicket}
 use Rattle.krb_kdc_exchanges.specs.TgsTable.{authenticated_near, by_options, covered, further_grant, further_lasting, further_till, reply_key, subkey_in}
 use Rattle.krb_authenticity.specs.Parties.{ExchangeRecord}
 
--- an AS exchange grants this, with this reply key: client and service have accounts, and the realm authenticated the client
+-- an AS exchange grants this, with this reply key: client and service have accounts, whose attributes allow it, and the realm authenticated the
+-- client
 pub record IsFirst (rows : PkinitRows) (exchange : ExchangeRecord) (grant : GrantRecord) (under : ReplyKeyRecord) (service : AccountRecord) : Type 0 where
   pub asked : KdcReq
   pub read : IsAsReq exchange.request asked
@@ -38,8 +40,9 @@ pub record IsFirst (rows : PkinitRows) (exchange : ExchangeRecord) (grant : Gran
   pub client_found : exchange.call.look (components principals.client_name) ≡ Some principals.client
   pub service_named : service_of (body_of asked) ≡ Some principals.service_name
   pub service_found : exchange.call.look (components principals.service_name) ≡ Some principals.service
+  pub allowed : (first_allowed exchange.call.moment principals).gives (Ok tt)
   pub span : Span
-  pub lasts : IsSpan exchange.call.settings.lifetime exchange.call.moment None (seconds_of (body_of asked).till.0.0) span
+  pub lasts : IsSpan (lifetime_of exchange.call.settings.lifetime principals.client principals.service) exchange.call.moment None (seconds_of (body_of asked).till.0.0) span
   pub authenticates : (authenticated exchange.call rows principals.client (components principals.client_name) asked).gives (Ok under)
   pub till : Option GeneralizedTime
   pub renews : IsTill (initial_till exchange.call span (body_of asked)) till
@@ -61,12 +64,15 @@ pub record IsFurther (exchange : ExchangeRecord) (grant : GrantRecord) (under : 
   pub service_name : PrincipalName
   pub service_named : service_of (body_of asked) ≡ Some service_name
   pub service_found : exchange.call.look (components service_name) ≡ Some service
+  pub client : AccountRecord
+  pub client_found : exchange.call.look (components part.cname.0) ≡ Some client
+  pub unrevoked : (further_allowed exchange.call.moment client service).gives (Ok tt)
   pub options : AskedOptions
   pub allows : options ≡ asked_options exchange.call.settings.policy (body_of asked).kdc_options.0
   pub allowed : (by_options exchange.call options part service_name).gives (Ok tt)
   pub suite : CipherSuite
   pub span : Span
-  pub lasts : (further_lasting options.renews exchange.call.settings.lifetime exchange.call.moment part (body_of asked)).gives (Ok span)
+  pub lasts : (further_lasting options.renews (limited service exchange.call.settings.lifetime) exchange.call.moment part (body_of asked)).gives (Ok span)
   pub till : Option GeneralizedTime
   pub renews : IsTill (further_till options.renews exchange.call.settings.policy.renewable_life part span (body_of asked)) till
   pub grants : grant ≡ further_grant exchange.call part service_name suite (body_of asked) span till

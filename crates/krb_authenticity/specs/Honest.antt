@@ -5,6 +5,7 @@ use Rattle.picky_asn1.specs.Bytes.{Bytes}
 use Rattle.krb_messages.specs.TicketGranting.{krbtgt_of}
 use Rattle.krb_realm_accounts.specs.Account.{AccountRecord}
 use Rattle.krb_realm_accounts.specs.Names.{AreComponents}
+use Rattle.krb_kdc_exchanges.specs.ChosenKeys.{chosen}
 use Rattle.krb_kdc_exchanges.specs.Rows.{PkinitRows}
 use Rattle.krb_tickets.specs.Grant.{GrantRecord}
 use Rattle.krb_tickets.specs.Parts.{ticket_of}
@@ -42,7 +43,7 @@ pub record IsFirstHonest (sent : SentRecord) (exchange : ExchangeRecord) : Type 
   pub suite : account.suite ≡ request.key.suite
   pub key : account.key ≡ request.key.bytes
 
--- a client asked for a further ticket, by one that it was granted before
+-- a client asked for a further ticket, by one that it was granted before, under the key of its kvno
 pub record IsFurtherHonest (rows : PkinitRows) (before : List ExchangeRecord) (sent : SentRecord) (exchange : ExchangeRecord) : Type 0 where
   pub request : FurtherRequest
   pub among : IsAmong request sent.further
@@ -51,7 +52,7 @@ pub record IsFurtherHonest (rows : PkinitRows) (before : List ExchangeRecord) (s
   pub bytes : exchange.request ≡ request.bytes
   pub granting : AccountRecord
   pub found : exchange.call.look (krbtgt_of exchange.call.realm) ≡ Some granting
-  pub by : IsByGrant rows before granting.key request.credential
+  pub by : IsByGrant rows before (chosen request.credential.ticket.enc_part.0 granting).key request.credential
 
 -- each exchange is one of these, the newest first
 abbrev pub AreHonest : PkinitRows → SentRecord → List ExchangeRecord → Type 0

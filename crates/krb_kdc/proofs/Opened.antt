@@ -1,6 +1,6 @@
 -- Tickets that an account's key opens.
 use Rattle.std.proofs.Common.{◌≡◌, ℕ, List, Option, None, Some, Result, Ok, Err, IfOk, sym, subst, inl, inr}
-use Rattle.krb_realm_accounts.specs.Account.{AccountRecord}
+use Rattle.krb_realm_accounts.specs.Account.{AccountKeyRecord, AccountRecord}
 use Rattle.krb_realm_accounts.specs.Accounts.{AccountMap, Look, look_in}
 use Rattle.krb_ap_requests.specs.ApTable.{enc_part_in, opened_part}
 use Rattle.krb_ap_requests.specs.Messages.{IsTicketPart, sole_ticket_part}
@@ -14,6 +14,7 @@ use Rattle.krb_messages.specs.declared.data_types.enc_ticket_part.EncTicketPartI
 use Rattle.krb_messages.specs.declared.data_types.encrypted_data.EncryptedData.{EncryptedData}
 use Rattle.krb_messages.specs.declared.data_types.pa_data.PaData.{PaData}
 use Rattle.krb_messages.specs.Names.{components}
+use Rattle.krb_kdc_exchanges.specs.ChosenKeys.{OpensTicket, chosen}
 use Rattle.krb_kdc.specs.Few.{IsFetched, Knows}
 use Rattle.krb_kdc.specs.Tickets.{IsClientFetched, IsTgsReqTicket}
 
@@ -25,7 +26,7 @@ unopened : (suite : CipherSuite) (key : List ℕ) (encrypted : EncryptedData) (c
 unopened suite key encrypted code (inl (own, is, e)) = absurd (cc (e))
 unopened suite key encrypted code (inr (none, e)) = none
 
-module _ (key : KeyRecord) (account : AccountRecord) (given wanted : EncryptedData) (of : key ≡ record { suite = account.suite; bytes = account.key }) (same : given ≡ wanted) where
+module _ (key : KeyRecord) (account : AccountKeyRecord) (given wanted : EncryptedData) (of : key ≡ record { suite = account.suite; bytes = account.key }) (same : given ≡ wanted) where
   by_key : (result : Result EncTicketPartInner ℕ) → (opened_part key.suite key.bytes given).gives result → (opened_part account.suite account.key wanted).gives result
   by_key result x =
       subst (λ encrypted. (opened_part account.suite account.key encrypted).gives result) same
@@ -40,15 +41,15 @@ module _ (key : KeyRecord) (account : AccountRecord) (given wanted : EncryptedDa
 -- the ticket that padata carry
 module _ (few : AccountMap) (granting : List (List ℕ)) (padata : List PaData) (account : AccountRecord) (value : List ℕ) (ap_req : ApReqInner)
     (has : look_in few granting ≡ Some account) (first : first_of 1 padata ≡ Some value) (read : IsApReq value ap_req) where
-  same_part : (part : EncTicketPartInner) → IsTgsReqTicket few granting padata part → IsTicketPart account.suite account.key (enc_part_in ap_req) part
+  same_part : (part : EncTicketPartInner) → IsTgsReqTicket few granting padata part → OpensTicket account (enc_part_in ap_req) part
   same_part part ticket =
       let own : ticket.account ≡ account = cc (ticket.has, has) in
       let carried : ticket.value ≡ value = cc (ticket.first, first) in
       let same : ticket.ap_req ≡ ap_req = sole_ap_req value ticket.ap_req ap_req (subst (λ v. IsApReq v ticket.ap_req) carried ticket.read) read in
-      subst (λ (a : AccountRecord). IsTicketPart a.suite a.key (enc_part_in ap_req) part) own
-      (subst (λ r. IsTicketPart ticket.account.suite ticket.account.key (enc_part_in r) part) same ticket.opens)
+      subst (λ (a : AccountRecord). OpensTicket a (enc_part_in ap_req) part) own
+      (subst (λ (r : ApReqInner). OpensTicket ticket.account (enc_part_in r) part) same ticket.opens)
 
-  pub ticket_found : {E : Type 0} (result : Result (Option EncTicketPartInner) E) → IfOk result (IsFound (IsTicketPart account.suite account.key (enc_part_in ap_req)))
+  pub ticket_found : {E : Type 0} (result : Result (Option EncTicketPartInner) E) → IfOk result (IsFound (OpensTicket account (enc_part_in ap_req)))
       → IfOk result (IsFound (IsTgsReqTicket few granting padata))
   ticket_found (Ok (Some part)) opens = record { value = value; ap_req = ap_req; account = account; first = first; read = read; has = has; opens = opens }
   ticket_found (Ok None) none = λ part ticket. none part (same_part part ticket)
@@ -56,7 +57,8 @@ module _ (few : AccountMap) (granting : List (List ℕ)) (padata : List PaData) 
 
 sole_tgs_req_ticket : (few : AccountMap) (granting : List (List ℕ)) (padata : List PaData) (a b : EncTicketPartInner) → IsTgsReqTicket few granting padata a → IsTgsReqTicket few granting padata b → a ≡ b
 sole_tgs_req_ticket few granting padata a b x y =
-    sole_ticket_part y.account.suite y.account.key (enc_part_in y.ap_req) a b (same_part few granting padata y.account y.value y.ap_req y.has y.first y.read a x) y.opens
+    let own : AccountKeyRecord = chosen (enc_part_in y.ap_req) y.account in
+    sole_ticket_part own.suite own.key (enc_part_in y.ap_req) a b (same_part few granting padata y.account y.value y.ap_req y.has y.first y.read a x) y.opens
 
 -- no ticket, and one whose client's account was looked up
 pub no_ticket : (all : Look) (granting : List (List ℕ)) (padata given : List PaData) (few : AccountMap) → given ≡ padata

@@ -53,10 +53,6 @@ impl Lookup for Accounts {
 fn copy_of(account: &Account) -> Result<Account, AllocError>
     ensures { IfOk result (λ copy. copy ≡ account.now) }
 {
-    let key = account.key().clone()?;
-    let salt = match account.salt() {
-        Some(salt) => Some(salt.clone()?),
-        None => None,
-    };
-    Ok(Account::new(key, account.kvno(), salt))
+    let copy = account.clone()?;
+    Ok(copy)
 }

@@ -2,7 +2,7 @@
 ghost use Rattle.std.specs.Prelude.{◌≡◌, IfErr, IfOk, OnOk};
 ghost use Rattle.krb_realm_accounts.specs.Accounts.{Look};
 ghost use Rattle.krb_ap_requests.specs.ApTable.{enc_part_in};
-ghost use Rattle.krb_ap_requests.specs.Messages.{IsTicketPart};
+ghost use Rattle.krb_kdc_exchanges.specs.ChosenKeys.{OpensTicket};
 ghost use Rattle.picky_asn1_der.specs.Found.{IsFound};
 ghost use Rattle.krb_messages.specs.Padata.{padata_in};
 ghost use Rattle.krb_kdc.specs.Failing.{FailsClient};
@@ -14,6 +14,7 @@ use crate::few::fetch;
 use crate::lookup::Lookup;
 use krb_ap_requests::{enc_part_in, open_ticket, read_ap_req};
 use krb_constants::padata_types::PA_TGS_REQ;
+use krb_kdc_exchanges::chosen_key;
 use krb_messages::data_types::{EncTicketPartInner, PaData};
 use krb_messages::messages::{ApReqInner, KdcReq};
 use krb_messages::{Refusal, first_of, padata_in};
@@ -68,15 +69,17 @@ fn part_by(
     part
 }
 
-/// Returns the part of the ticket of an AP request, or none if this account's key doesn't open it.
+/// Returns the part of the ticket of an AP request, or none if the account's key of its kvno doesn't open it.
 pub fn presented_part(
     alloc: Global,
     account: &Account,
     ap_req: &ApReqInner,
 ) -> Result<Option<EncTicketPartInner>, AllocError>
-    ensures { IfOk result (IsFound (IsTicketPart account.now.suite account.now.key (enc_part_in ap_req.now))) }
+    ensures { IfOk result (IsFound (OpensTicket account.now (enc_part_in ap_req.now))) }
 {
-    match open_ticket(alloc, account.key(), enc_part_in(ap_req)) {
+    let sealed = enc_part_in(ap_req);
+    let own = chosen_key(sealed, account);
+    match open_ticket(alloc, own.key, sealed) {
         Ok(part) => Ok(Some(part)),
         Err(Refusal::Krb(_)) => Ok(None),
         Err(Refusal::Memory) => Err(AllocError),

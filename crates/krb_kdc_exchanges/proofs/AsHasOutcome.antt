@@ -1,5 +1,5 @@
 -- The table of AS requests has an outcome: each part of it has one.
-use Rattle.std.proofs.Common.{◌≡◌, ◌<◌, ℕ, ◌^◌, Bool, true, false, not, List, length, Option, None, Some, Result, Ok, Err, refl, sym, subst, inl, inr}
+use Rattle.std.proofs.Common.{◌≡◌, ◌<◌, ℕ, ◌^◌, Bool, true, false, not, ◌&&◌, List, length, Option, None, Some, Result, Ok, Err, refl, sym, subst, inl, inr}
 use Rattle.picky_asn1.specs.Numbers.{is_number}
 use Rattle.asn1_leaves.specs.declared.date.GeneralizedTime.{GeneralizedTime}
 use Rattle.krb_tickets.specs.Grant.{GrantRecord}
@@ -29,6 +29,7 @@ use Rattle.pkinit_messages.specs.declared.agility.kdf.Kdf.{Kdf}
 use Rattle.pkinit_messages.proofs.KeyLemmas.{derived_key-sized, derived_key-bytes}
 use Rattle.krb_kdc_exchanges.specs.AgreedKeys.{agreed_reply, kdf_context, key_by}
 use Rattle.krb_kdc_exchanges.specs.Rows.{PkinitRows}
+use Rattle.krb_kdc_exchanges.specs.Allowed.{changes_passwords, first_allowed, has_ended, lifetime_of}
 use Rattle.krb_kdc_exchanges.specs.AsTable.{as_table, authenticated, authenticated_by, is_later, is_listed, possible, timestamped}
 use Rattle.krb_kdc_exchanges.specs.Call.{CallRecord, pkinit_call, skew_of}
 use Rattle.krb_kdc_exchanges.specs.Calls.{IsCall, IsKeyed}
@@ -45,10 +46,24 @@ use Rattle.krb_kdc_exchanges.proofs.Written.{IsWritten, is_written, own_realm_fi
 abbrev in_suite : CipherSuite → KdcReqBody → Span → Table (Result Span ℕ)
 in_suite suite body span = refuse (not (is_listed suite body)) 14 (done (Ok span))
 
-has_possible : (call : CallRecord) (suite : CipherSuite) (body : KdcReqBody) → IsCall call → HasOutcome (possible call suite body)
-has_possible call suite body is =
-    has_refused {T = Span} (is_later call body) 10 (and_then (lasting call.settings.lifetime call.moment None body) (in_suite suite body))
-    (λ _. has_then (lasting call.settings.lifetime call.moment None body) (in_suite suite body) (has_lasting call.settings.lifetime call.moment None body is.in_time)
+has_first_allowed : (moment : ℕ) (these : Principals) → HasOutcome (first_allowed moment these)
+has_first_allowed moment these =
+    rows (has_ended moment these.client) (has_ended moment these.service) (these.client.attributes.must_change && not (changes_passwords (components these.service_name)))
+    these.client.attributes.is_off these.service.attributes.is_off these.service.attributes.is_no_service
+  where
+    rows : (a b c d e f : Bool) → HasOutcome (refuse {T = Unit {0}} {E = ℕ} a 1 (refuse b 2 (refuse c 23 (refuse d 18 (refuse e 7 (refuse f 12 (done (Ok tt))))))))
+    rows true b c d e f = has_done (Err 1)
+    rows false true c d e f = has_done (Err 2)
+    rows false false true d e f = has_done (Err 23)
+    rows false false false true e f = has_done (Err 18)
+    rows false false false false true f = has_done (Err 7)
+    rows false false false false false true = has_done (Err 12)
+    rows false false false false false false = has_done (Ok tt)
+
+has_possible : (call : CallRecord) (lifetime : ℕ) (suite : CipherSuite) (body : KdcReqBody) → IsCall call → HasOutcome (possible call lifetime suite body)
+has_possible call lifetime suite body is =
+    has_refused {T = Span} (is_later call body) 10 (and_then (lasting lifetime call.moment None body) (in_suite suite body))
+    (λ _. has_then (lasting lifetime call.moment None body) (in_suite suite body) (has_lasting lifetime call.moment None body is.in_time)
     (λ span _. has_refused {T = Span} (not (is_listed suite body)) 14 (done (Ok span)) (λ _. has_done (Ok span))))
 
 has_near : (moment : Option ℕ) (far : ℕ → Bool) → HasOutcome (need {A = ℕ} {T = Unit {0}} {E = ℕ} moment 24 (λ time. refuse (far time) 37 (done (Ok tt))))
@@ -120,11 +135,17 @@ module _ (call : CallRecord) (rows : PkinitRows) (of_client of_service : Option 
   to_prove principals span =
       and_then (authenticated call rows principals.client (components principals.client_name) request) (λ under. granted call principals under span request.req_body.0)
 
+  abbrev lifetime : Principals → ℕ
+  lifetime principals = lifetime_of call.settings.lifetime principals.client principals.service
+
   abbrev to_be_possible : Principals → Table (Result (List ℕ) ℕ)
-  to_be_possible principals = and_then (possible call principals.client.suite request.req_body.0) (to_prove principals)
+  to_be_possible principals = and_then (possible call (lifetime principals) principals.client.suite request.req_body.0) (to_prove principals)
+
+  abbrev to_be_allowed : Principals → Table (Result (List ℕ) ℕ)
+  to_be_allowed principals = and_then {A = Unit {0}} (first_allowed call.moment principals) (λ _. to_be_possible principals)
 
   abbrev by_service : PrincipalName → AccountRecord → PrincipalName → AccountRecord → Table (Result (List ℕ) ℕ)
-  by_service client_name client service_name service = to_be_possible (asked_by client_name client service_name service)
+  by_service client_name client service_name service = to_be_allowed (asked_by client_name client service_name service)
 
   abbrev by_service_name : PrincipalName → AccountRecord → PrincipalName → Table (Result (List ℕ) ℕ)
   by_service_name client_name client service_name = need of_service 7 (by_service client_name client service_name)
@@ -172,7 +193,8 @@ module _ (call : CallRecord) (rows : PkinitRows) (of_client of_service : Option 
 
     has_grant : (principals : Principals) → (header_rows 10 call.realm refused request).gives (Ok tt) → AreAsked principals → HasOutcome (to_be_possible principals)
     has_grant principals to_us these =
-        has_then (possible call principals.client.suite request.req_body.0) (to_prove principals) (has_possible call principals.client.suite request.req_body.0 is)
+        has_then (possible call (lifetime principals) principals.client.suite request.req_body.0) (to_prove principals)
+        (has_possible call (lifetime principals) principals.client.suite request.req_body.0 is)
         (λ span given.
         has_then (authenticated call rows principals.client (components principals.client_name) request) (λ under. granted call principals under span request.req_body.0)
         (has_authenticated call rows principals.client (components principals.client_name) request)
@@ -181,6 +203,11 @@ module _ (call : CallRecord) (rows : PkinitRows) (of_client of_service : Option 
         has_tilled (initial_till call span request.req_body.0) (with_till principals span) under principals.service call.words
         (has_granted_till call.settings.policy.renewable_life span None (asked_till request.req_body.0)) is_under.sized is_under.bytes these.service is.enough is.bytes
         (λ till. subst (λ (e : Exchange). IsWritten e (with_till principals span till)) (sym is_under.exchange) (first_written principals span till to_us these))))
+
+    has_allowed : (principals : Principals) → (header_rows 10 call.realm refused request).gives (Ok tt) → AreAsked principals → HasOutcome (to_be_allowed principals)
+    has_allowed principals to_us these =
+        has_then {A = Unit {0}} (first_allowed call.moment principals) (λ _. to_be_possible principals) (has_first_allowed call.moment principals)
+        (λ _ allowed. has_grant principals to_us these)
 
     pub has_as_outcome : ((client : AccountRecord) → of_client ≡ Some client → IsKeyed client) → ((service : AccountRecord) → of_service ≡ Some service → IsKeyed service)
         → HasOutcome (as_table call rows of_client of_service request)
@@ -195,5 +222,5 @@ module _ (call : CallRecord) (rows : PkinitRows) (of_client of_service : Option 
         (λ service_name c.
         has_needed of_service 7 (by_service client_name client service_name)
         (λ service d.
-        has_grant (asked_by client_name client service_name service) x
+        has_allowed (asked_by client_name client service_name service) x
         (record { client_name = a; client = client_keyed client b; service_name = c; service = service_keyed service d }))))))

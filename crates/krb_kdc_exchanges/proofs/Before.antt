@@ -1,5 +1,5 @@
 -- Why the tables of a realm that sets no policy are those without one.
-use Rattle.std.proofs.Common.{◌≡◌, ℕ, Bool, true, false, not, ◌&&◌, List, Option, None, Some, Result, Ok, refl, sym, subst, inl, inr}
+use Rattle.std.proofs.Common.{◌≡◌, ℕ, Bool, true, false, ◌&&◌, List, Option, None, Some, Result, Ok, refl, sym, subst, inl, inr}
 use Rattle.std.specs.Prelude.{◌||◌}
 use Rattle.std.specs.Option.{is_some}
 use Rattle.asn1_leaves.specs.GeneralizedTime.{seconds_of}
@@ -25,6 +25,7 @@ use Rattle.krb_tickets.specs.Grant.{GrantRecord}
 use Rattle.krb_tickets.specs.Parts.{plain_flags}
 use Rattle.krb_tickets.specs.ReplyKeys.{ReplyKeyRecord}
 use Rattle.krb_ap_requests.specs.declared.presented.Authenticated.{Authenticated}
+use Rattle.krb_kdc_exchanges.specs.Allowed.{first_allowed, further_allowed, lifetime_of, limited}
 use Rattle.krb_kdc_exchanges.specs.AsTable.{as_table, authenticated, possible}
 use Rattle.krb_kdc_exchanges.specs.Before.{plain_as_table, plain_further, plain_granted, plain_initial, plain_tgs_table, without_policy}
 use Rattle.krb_kdc_exchanges.specs.Call.{CallRecord}
@@ -34,7 +35,7 @@ use Rattle.krb_kdc_exchanges.specs.Options.{asked_options, has_option_beyond}
 use Rattle.krb_kdc_exchanges.specs.Renewals.{IsTill, asked_till, granted_till, renew_till_of}
 use Rattle.krb_kdc_exchanges.specs.Requests.{client_of, has_refused_option, header_rows, lasting, service_of}
 use Rattle.krb_kdc_exchanges.specs.Rows.{PkinitRows}
-use Rattle.krb_kdc_exchanges.specs.TgsTable.{authenticated_near, carried, covered, first_granted, further, further_addresses, further_asked, further_by, further_grant, further_in, further_replied, granted_flags, has_account, reply_key, subkey_in, tgs_table, ticket_granting}
+use Rattle.krb_kdc_exchanges.specs.TgsTable.{authenticated_near, carried, covered, first_granted, further, further_addresses, further_asked, further_by, further_grant, further_in, further_replied, granted_flags, reply_key, subkey_in, tgs_table, ticket_granting}
 use Rattle.krb_kdc_exchanges.specs.declared.options.AskedOptions.{AskedOptions}
 use Rattle.krb_kdc_exchanges.specs.declared.span.Span.{Span}
 use Rattle.krb_kdc_exchanges.proofs.TgsInvolved.{same_need, same_then}
@@ -134,11 +135,17 @@ module _ (own : CallRecord) (request : KdcReq) (r : Result (List ℕ) ℕ) where
     abbrev to_prove : End → Principals → Span → Table (Result (List ℕ) ℕ)
     to_prove end principals span = and_then (authenticated call rows principals.client (components principals.client_name) request) (end principals span)
 
+    abbrev lifetime : Principals → ℕ
+    lifetime principals = lifetime_of call.settings.lifetime principals.client principals.service
+
     abbrev to_be_possible : End → Principals → Table (Result (List ℕ) ℕ)
-    to_be_possible end principals = and_then (possible call principals.client.suite body) (to_prove end principals)
+    to_be_possible end principals = and_then (possible call (lifetime principals) principals.client.suite body) (to_prove end principals)
+
+    abbrev to_be_allowed : End → Principals → Table (Result (List ℕ) ℕ)
+    to_be_allowed end principals = and_then {A = Unit {0}} (first_allowed call.moment principals) (λ _. to_be_possible end principals)
 
     abbrev by_service : End → PrincipalName → AccountRecord → PrincipalName → AccountRecord → Table (Result (List ℕ) ℕ)
-    by_service end client_name client service_name service = to_be_possible end (asked_by client_name client service_name service)
+    by_service end client_name client service_name service = to_be_allowed end (asked_by client_name client service_name service)
 
     abbrev by_service_name : End → PrincipalName → AccountRecord → PrincipalName → Table (Result (List ℕ) ℕ)
     by_service_name end client_name client service_name = need of_service 7 (by_service end client_name client service_name)
@@ -170,8 +177,10 @@ module _ (own : CallRecord) (request : KdcReq) (r : Result (List ℕ) ℕ) where
         same_need of_service of_service refl 7 (by_service from client_name client service_name) (by_service to client_name client service_name) r
         (λ service d.
         let principals : Principals = asked_by client_name client service_name service in
-        same_then (possible call client.suite body) (to_prove from principals) (to_prove to principals) r
-        (λ span e. same_then (authenticated call rows client (components client_name) request) (from principals span) (to principals span) r (λ under f. same principals span under)))))))
+        same_then {A = Unit {0}} (first_allowed call.moment principals) (λ _. to_be_possible from principals) (λ _. to_be_possible to principals) r
+        (λ _ allowed.
+        same_then (possible call (lifetime principals) client.suite body) (to_prove from principals) (to_prove to principals) r
+        (λ span e. same_then (authenticated call rows client (components client_name) request) (from principals span) (to principals span) r (λ under f. same principals span under))))))))
 
     pub as_plain : (as_table call rows of_client of_service request).gives r → (plain_as_table call rows of_client of_service request).gives r
     as_plain = with_end policy_end plain_end initial_plain
@@ -211,7 +220,7 @@ module _ (own : CallRecord) (request : KdcReq) (r : Result (List ℕ) ℕ) where
     policy_suite span = need (first_granted false body.etype.0) 14 (policy_key span)
 
     abbrev lasts : Table (Result Span ℕ)
-    lasts = lasting call.settings.lifetime call.moment (Some (seconds_of part.endtime.0.0)) body
+    lasts = lasting (limited service call.settings.lifetime) call.moment (Some (seconds_of part.endtime.0.0)) body
 
     abbrev seals : Span → CipherSuite → ReplyKeyRecord → GrantRecord → Type 0
     seals span suite under grant = (replied grant under service call.words).gives r
@@ -260,14 +269,17 @@ module _ (own : CallRecord) (request : KdcReq) (r : Result (List ℕ) ℕ) where
   abbrev by_none : Further
   by_none part shown name service = plain_granted call part shown name service body
 
-  abbrev to_account : Further → EncTicketPartInner → Authenticated → PrincipalName → Table (Result (List ℕ) ℕ)
-  to_account end part shown name = need (call.look (components name)) 7 (end part shown name)
+  abbrev to_allow : Further → EncTicketPartInner → Authenticated → AccountRecord → PrincipalName → AccountRecord → Table (Result (List ℕ) ℕ)
+  to_allow end part shown client name service = and_then {A = Unit {0}} (further_allowed call.moment client service) (λ _. end part shown name service)
 
-  abbrev to_service : Further → EncTicketPartInner → Authenticated → Table (Result (List ℕ) ℕ)
-  to_service end part shown = need (service_of body) 7 (to_account end part shown)
+  abbrev to_account : Further → EncTicketPartInner → Authenticated → AccountRecord → PrincipalName → Table (Result (List ℕ) ℕ)
+  to_account end part shown client name = need (call.look (components name)) 7 (to_allow end part shown client name)
+
+  abbrev to_service : Further → EncTicketPartInner → Authenticated → AccountRecord → Table (Result (List ℕ) ℕ)
+  to_service end part shown client = need (service_of body) 7 (to_account end part shown client)
 
   abbrev to_client : Further → EncTicketPartInner → Authenticated → Table (Result (List ℕ) ℕ)
-  to_client end part shown = refuse (not (has_account call part.cname.0)) 6 (to_service end part shown)
+  to_client end part shown = need (call.look (components part.cname.0)) 6 (to_service end part shown)
 
   abbrev to_cover : Further → EncTicketPartInner → Authenticated → Table (Result (List ℕ) ℕ)
   to_cover end part shown = and_then {A = Unit {0}} (covered shown.suite part.key.0.key_value.0 shown.authenticator body) (λ _. to_client end part shown)
@@ -287,10 +299,6 @@ module _ (own : CallRecord) (request : KdcReq) (r : Result (List ℕ) ℕ) where
   abbrev of_further : Further → Bool → Table (Result (List ℕ) ℕ)
   of_further end refused = and_then {A = Unit {0}} (for_us refused) (λ _. and_then (carried (padata_in request)) (to_granting end))
 
-  same_case : (case : Bool) (code : ℕ) (t u : Table (Result (List ℕ) ℕ)) → (t.gives r → u.gives r) → (refuse {T = List ℕ} case code t).gives r → (refuse {T = List ℕ} case code u).gives r
-  same_case true code t u same x = x
-  same_case false code t u same x = same x
-
   with_further : (from to : Further) → ((part : EncTicketPartInner) (shown : Authenticated) (name : PrincipalName) (service : AccountRecord) → (from part shown name service).gives r → (to part shown name service).gives r)
       → (refused : Bool) → (of_further from refused).gives r → (of_further to refused).gives r
   with_further from to same refused =
@@ -306,11 +314,14 @@ module _ (own : CallRecord) (request : KdcReq) (r : Result (List ℕ) ℕ) where
       (λ shown e.
       same_then {A = Unit {0}} (covered shown.suite part.key.0.key_value.0 shown.authenticator body) (λ _. to_client from part shown) (λ _. to_client to part shown) r
       (λ _ f.
-      same_case (not (has_account call part.cname.0)) 6 (to_service from part shown) (to_service to part shown)
-      (same_need (service_of body) (service_of body) refl 7 (to_account from part shown) (to_account to part shown) r
-      (λ name g.
-      same_need (call.look (components name)) (call.look (components name)) refl 7 (from part shown name) (to part shown name) r
-      (λ service h. same part shown name service)))))))))
+      same_need (call.look (components part.cname.0)) (call.look (components part.cname.0)) refl 6 (to_service from part shown) (to_service to part shown) r
+      (λ client g.
+      same_need (service_of body) (service_of body) refl 7 (to_account from part shown client) (to_account to part shown client) r
+      (λ name h.
+      same_need (call.look (components name)) (call.look (components name)) refl 7 (to_allow from part shown client name) (to_allow to part shown client name) r
+      (λ service j.
+      same_then {A = Unit {0}} (further_allowed call.moment client service) (λ _. from part shown name service) (λ _. to part shown name service) r
+      (λ _ k. same part shown name service))))))))))
 
   pub tgs_plain : (tgs_table call request).gives r → (plain_tgs_table call request).gives r
   tgs_plain x =

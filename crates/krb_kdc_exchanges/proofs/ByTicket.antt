@@ -1,7 +1,7 @@
 -- What the parts of the table give is of the ticket that the request comes with.
 use Rattle.std.proofs.Common.{◌≡◌, ℕ, Bool, true, false, List, Option, None, Some, Result, Ok, Err, refl, sym, subst, inl, inr}
 use Rattle.krb_crypto.specs.declared.suite.CipherSuite.{CipherSuite}
-use Rattle.krb_realm_accounts.specs.Account.{AccountRecord}
+use Rattle.krb_realm_accounts.specs.Account.{AccountKeyRecord, AccountRecord}
 use Rattle.krb_messages.specs.declared.data_types.authenticator.AuthenticatorInner.{AuthenticatorInner}
 use Rattle.krb_messages.specs.declared.data_types.enc_ticket_part.EncTicketPartInner.{EncTicketPartInner}
 use Rattle.krb_messages.specs.declared.data_types.encrypted_data.EncryptedData.{EncryptedData}
@@ -16,8 +16,9 @@ use Rattle.krb_ap_requests.specs.ApTable.{authenticated, opened}
 use Rattle.krb_ap_requests.specs.Messages.{IsAuthenticator, IsTicketPart, sole_authenticator, sole_ticket_part}
 use Rattle.krb_ap_requests.specs.declared.presented.Authenticated.{Authenticated}
 use Rattle.krb_kdc_exchanges.specs.Call.{CallRecord, skew_of}
+use Rattle.krb_kdc_exchanges.specs.ChosenKeys.{OpensTicket, chosen}
 use Rattle.krb_time.specs.Skew.{is_far}
-use Rattle.krb_kdc_exchanges.specs.TgsTable.{carried, authenticated_near, ticket_granting}
+use Rattle.krb_kdc_exchanges.specs.TgsTable.{carried, authenticated_near, granting_by, ticket_granting}
 
 -- a value that was asked for has the property
 pub asked_for : {A : Type 0} (P : A → Type 0) (sole : IsSole P) (code : ℕ) (a : A) → (ask {T = Result A ℕ} P sole (done (Err code)) (λ v. done (Ok v))).gives (Ok a) → P a
@@ -40,15 +41,20 @@ by_padata padata ap_req x = of_padata (first_of 1 padata) refl x
     of_padata None e y = absurd (cc (y))
     of_padata (Some value) e y = (value, e, asked_for (IsApReq value) (sole_ap_req value) 41 ap_req y)
 
-pub by_ticket : (call : CallRecord) (granting : AccountRecord) (ap_req : ApReqInner) (part : EncTicketPartInner) → (ticket_granting call granting ap_req).gives (Ok part)
-    → IsTicketPart granting.suite granting.key ap_req.ticket.0.0.enc_part.0 part
-by_ticket call granting ap_req part (inl (_, fields, inl (own, opened, inl (_, counts, e)))) =
+by_key : (call : CallRecord) (key : AccountKeyRecord) (ap_req : ApReqInner) (part : EncTicketPartInner) → (granting_by call key ap_req).gives (Ok part)
+    → IsTicketPart key.suite key.key ap_req.ticket.0.0.enc_part.0 part
+by_key call key ap_req part (inl (_, fields, inl (own, opened, inl (_, counts, e)))) =
     let same : part ≡ own = cc (e) in
-    subst (λ p. IsTicketPart granting.suite granting.key ap_req.ticket.0.0.enc_part.0 p) (sym same)
-    (asked_for (IsTicketPart granting.suite granting.key ap_req.ticket.0.0.enc_part.0) (sole_ticket_part granting.suite granting.key ap_req.ticket.0.0.enc_part.0) 31 own opened)
-by_ticket call granting ap_req part (inl (_, fields, inl (own, opened, inr (code, counts, e)))) = absurd (cc (e))
-by_ticket call granting ap_req part (inl (_, fields, inr (code, opened, e))) = absurd (cc (e))
-by_ticket call granting ap_req part (inr (code, fields, e)) = absurd (cc (e))
+    subst (λ p. IsTicketPart key.suite key.key ap_req.ticket.0.0.enc_part.0 p) (sym same)
+    (asked_for (IsTicketPart key.suite key.key ap_req.ticket.0.0.enc_part.0) (sole_ticket_part key.suite key.key ap_req.ticket.0.0.enc_part.0) 31 own opened)
+by_key call key ap_req part (inl (_, fields, inl (own, opened, inr (code, counts, e)))) = absurd (cc (e))
+by_key call key ap_req part (inl (_, fields, inr (code, opened, e))) = absurd (cc (e))
+by_key call key ap_req part (inr (code, fields, e)) = absurd (cc (e))
+
+-- it opens under the key of the account that has its kvno
+pub by_ticket : (call : CallRecord) (granting : AccountRecord) (ap_req : ApReqInner) (part : EncTicketPartInner) → (ticket_granting call granting ap_req).gives (Ok part)
+    → OpensTicket granting ap_req.ticket.0.0.enc_part.0 part
+by_ticket call granting ap_req part = by_key call (chosen ap_req.ticket.0.0.enc_part.0 granting) ap_req part
 
 -- the suite is that of the ticket's key, and the authenticator is sealed under it
 pub record IsOfKey (ap_req : ApReqInner) (part : EncTicketPartInner) (authenticated : Authenticated) : Type 0 where

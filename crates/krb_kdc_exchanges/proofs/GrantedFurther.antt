@@ -13,6 +13,7 @@ use Rattle.krb_tickets.specs.Grant.{GrantRecord}
 use Rattle.krb_tickets.specs.ReplyKeys.{ReplyKeyRecord}
 use Rattle.krb_tickets.specs.Granted.{IsTicketReply}
 use Rattle.krb_ap_requests.specs.declared.presented.Authenticated.{Authenticated}
+use Rattle.krb_kdc_exchanges.specs.Allowed.{limited}
 use Rattle.krb_kdc_exchanges.specs.Call.{CallRecord}
 use Rattle.krb_kdc_exchanges.specs.Granting.{IsGranted}
 use Rattle.krb_kdc_exchanges.specs.Renewals.{IsTill}
@@ -22,17 +23,17 @@ use Rattle.krb_kdc_exchanges.proofs.Parts.{grant_refused}
 
 -- the ticket would end where it starts, or earlier
 pub not_lasting : (renews : Bool) (call : CallRecord) (part : EncTicketPartInner) (authenticated : Authenticated) (service_name : PrincipalName) (service : AccountRecord) (body : KdcReqBody) (e : Refusal)
-    → IsJudged (further_lasting renews call.settings.lifetime call.moment part body).gives (Err e) → IsGranted (further_in renews call part authenticated service_name service body).gives (Err e)
+    → IsJudged (further_lasting renews (limited service call.settings.lifetime) call.moment part body).gives (Err e) → IsGranted (further_in renews call part authenticated service_name service body).gives (Err e)
 not_lasting renews call part authenticated service_name service body e x =
     let keyed : Option ReplyKeyRecord = reply_key authenticated.suite part.key.0.key_value.0 (subkey_in authenticated.authenticator) in
     let to_seal : Span → CipherSuite → ReplyKeyRecord → Table (Result (List ℕ) ℕ) =
     λ span suite under. further_replied call part service_name service suite under (further_till renews call.settings.policy.renewable_life part span body) body span in
     let to_key : Span → CipherSuite → Table (Result (List ℕ) ℕ) = λ span suite. need keyed 31 (to_seal span suite) in
     let to_suite : Span → Table (Result (List ℕ) ℕ) = λ span. need (first_granted (without_des3 call part service) body.etype.0) 14 (to_key span) in
-    grant_refused (further_lasting renews call.settings.lifetime call.moment part body) to_suite e x
+    grant_refused (further_lasting renews (limited service call.settings.lifetime) call.moment part body) to_suite e x
 
 module _ (renews : Bool) (call : CallRecord) (part : EncTicketPartInner) (authenticated : Authenticated) (service_name : PrincipalName) (service : AccountRecord) (body : KdcReqBody) (span : Span)
-    (lasts : (further_lasting renews call.settings.lifetime call.moment part body).gives (Ok span)) where
+    (lasts : (further_lasting renews (limited service call.settings.lifetime) call.moment part body).gives (Ok span)) where
   abbrev first : Option CipherSuite
   first = first_granted (without_des3 call part service) body.etype.0
 

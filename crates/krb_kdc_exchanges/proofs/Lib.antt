@@ -18,6 +18,8 @@ pub mod ByTicket
 pub mod TgsHasOutcome
 pub mod TgsInvolved
 mod Before
+pub mod PlainAccounts
+pub mod KeyChoice
 mod GrantedFurther
 mod TgsJudged
 mod GrantedSuites

@@ -13,7 +13,7 @@ use Rattle.picky_asn1.specs.Numbers.{is_number}
 use Rattle.krb_time.specs.Skew.{is_far}
 use Rattle.krb_crypto.specs.declared.suite.CipherSuite.{CipherSuite}
 use Rattle.krb_crypto.specs.Suites.{checksum_number, cipher_checksum, cipher_key_size}
-use Rattle.krb_realm_accounts.specs.Account.{AccountRecord}
+use Rattle.krb_realm_accounts.specs.Account.{AccountKeyRecord, AccountRecord}
 use Rattle.krb_messages.specs.Names.{components, is_same_realm}
 use Rattle.krb_messages.specs.declared.data_types.authenticator.AuthenticatorInner.{AuthenticatorInner}
 use Rattle.krb_messages.specs.declared.data_types.checksum.Checksum.{Checksum}
@@ -35,8 +35,10 @@ use Rattle.krb_tickets.specs.declared.reply.Exchange.TheVariants.{Tgs}
 use Rattle.krb_tickets.specs.Grant.{GrantRecord}
 use Rattle.krb_tickets.specs.ReplyKeys.{ReplyKeyRecord, tgs_reply_key, tgs_subkey_reply_key}
 use Rattle.krb_ap_requests.specs.declared.presented.Authenticated.{Authenticated}
+use Rattle.krb_kdc_exchanges.specs.Allowed.{further_allowed, has_ended, limited}
 use Rattle.krb_kdc_exchanges.specs.Call.{CallRecord, skew_of}
 use Rattle.krb_kdc_exchanges.specs.Calls.{IsCall, IsKeyed}
+use Rattle.krb_kdc_exchanges.specs.ChosenKeys.{chosen}
 use Rattle.krb_kdc_exchanges.specs.Options.{asked_options, has_option_beyond}
 use Rattle.krb_kdc_exchanges.specs.Renewals.{IsTill, is_outlived, is_renewable, life_of, renew_till_of}
 use Rattle.krb_kdc_exchanges.specs.Requests.{header_rows, service_of}
@@ -54,7 +56,7 @@ use Rattle.krb_ap_requests.specs.ApTable.{ap_fields, authenticated, is_early, is
 use Rattle.krb_tickets.proofs.KeySizes.{suite_sized}
 use Rattle.krb_ap_requests.proofs.Judgements.{has_authenticated, has_fields, has_opened_part, has_times}
 use Rattle.krb_kdc_exchanges.specs.ByTicket.{IsByTicket}
-use Rattle.krb_kdc_exchanges.specs.TgsTable.{addresses_in, by_options, carried, checksum_in, client_and_times, covered, first_granted, further, further_asked, further_grant, further_in, further_lasting, further_replied, further_till, has_account, is_granting, is_known_checksum, is_of_body, of_carried, of_authenticated, of_ticket, reply_key, authenticated_near, subkey_in, tgs_granted, tgs_table, ticket_granting, to_us, without_des3}
+use Rattle.krb_kdc_exchanges.specs.TgsTable.{addresses_in, by_options, carried, checksum_in, client_and_times, covered, first_granted, further, further_asked, further_grant, further_in, further_lasting, further_replied, further_till, granting_by, is_granting, is_known_checksum, is_of_body, of_carried, of_authenticated, of_ticket, reply_key, authenticated_near, subkey_in, tgs_granted, tgs_table, ticket_granting, to_us, without_des3}
 use Rattle.krb_kdc_exchanges.proofs.ByTicket.{IsOfKey, by_authenticator, by_padata, by_ticket}
 use Rattle.krb_kdc_exchanges.proofs.PresentedTrees.{authenticator_short, part_name_fits, request_fits, subkey_short, ticket_short}
 use Rattle.krb_kdc_exchanges.proofs.SealedLengths.{opened_fits}
@@ -81,16 +83,19 @@ has_client_and_times : (call : CallRecord) (part : EncTicketPartInner) → HasOu
 has_client_and_times call part =
     has_refused {T = Unit {0}} (not (is_same_realm part.crealm.0 call.realm)) 68 (timely (skew_of call) call.moment part) (λ _. has_times (is_early (skew_of call) call.moment part) (is_late (skew_of call) call.moment part))
 
-has_ticket_granting : (call : CallRecord) (granting : AccountRecord) (ap_req : ApReqInner) → HasOutcome (ticket_granting call granting ap_req)
-has_ticket_granting call granting ap_req =
+has_granting_by : (call : CallRecord) (own : AccountKeyRecord) (ap_req : ApReqInner) → HasOutcome (granting_by call own ap_req)
+has_granting_by call own ap_req =
     let end : EncTicketPartInner → Table (Result EncTicketPartInner ℕ) = λ part. and_then {A = Unit {0}} (client_and_times call part) (λ _. done (Ok part)) in
-    let opened : Table (Result EncTicketPartInner ℕ) = opened_part granting.suite granting.key ap_req.ticket.0.0.enc_part.0 in
-    has_then {A = Unit {0}} (ap_fields call.realm (krbtgt_of call.realm) granting.kvno ap_req) (λ _. and_then opened end)
+    let opened : Table (Result EncTicketPartInner ℕ) = opened_part own.suite own.key ap_req.ticket.0.0.enc_part.0 in
+    has_then {A = Unit {0}} (ap_fields call.realm (krbtgt_of call.realm) own.kvno ap_req) (λ _. and_then opened end)
     (has_fields (not (is_version_5 ap_req)) (not (is_number 14 ap_req.msg_type.0)) (not (is_for call.realm (krbtgt_of call.realm) ap_req.ticket.0.0))
-    (not (kvno_fits granting.kvno ap_req.ticket.0.0.enc_part.0)))
+    (not (kvno_fits own.kvno ap_req.ticket.0.0.enc_part.0)))
     (λ _ x.
-    has_then opened end (has_opened_part granting.suite granting.key ap_req.ticket.0.0.enc_part.0)
+    has_then opened end (has_opened_part own.suite own.key ap_req.ticket.0.0.enc_part.0)
     (λ part y. has_then {A = Unit {0}} (client_and_times call part) (λ _. done (Ok part)) (has_client_and_times call part) (λ _ z. has_done (Ok part))))
+
+has_ticket_granting : (call : CallRecord) (granting : AccountRecord) (ap_req : ApReqInner) → HasOutcome (ticket_granting call granting ap_req)
+has_ticket_granting call granting ap_req = has_granting_by call (chosen ap_req.ticket.0.0.enc_part.0 granting) ap_req
 
 has_authenticated_near : (call : CallRecord) (part : EncTicketPartInner) (ap_req : ApReqInner) → HasOutcome (authenticated_near call part ap_req)
 has_authenticated_near call part ap_req =
@@ -109,6 +114,18 @@ has_covered suite key authenticator body =
     (λ _.
     has_refused {T = Unit {0}} (not (is_number (checksum_number (cipher_checksum suite)) checksum.cksumtype.0)) 50 (last checksum)
     (λ _. has_refused {T = Unit {0}} (not (is_of_body (cipher_checksum suite) key body checksum)) 41 (done (Ok tt)) (λ _. has_done (Ok tt)))))
+
+has_further_allowed : (moment : ℕ) (client service : AccountRecord) → HasOutcome (further_allowed moment client service)
+has_further_allowed moment client service =
+    rows (has_ended moment client) client.attributes.is_off service.attributes.is_off service.attributes.is_no_service (has_ended moment service)
+  where
+    rows : (a b c d e : Bool) → HasOutcome (refuse {T = Unit {0}} {E = ℕ} a 1 (refuse b 18 (refuse c 7 (refuse d 12 (refuse e 2 (done (Ok tt)))))))
+    rows true b c d e = has_done (Err 1)
+    rows false true c d e = has_done (Err 18)
+    rows false false true d e = has_done (Err 7)
+    rows false false false true e = has_done (Err 12)
+    rows false false false false true = has_done (Err 2)
+    rows false false false false false = has_done (Ok tt)
 
 has_by_options : (call : CallRecord) (asked : AskedOptions) (part : EncTicketPartInner) (service_name : PrincipalName) → HasOutcome (by_options call asked part service_name)
 has_by_options call asked part service_name =
@@ -167,7 +184,8 @@ module _ (call : CallRecord) (request : KdcReq) (is : IsCall call) (n : ℕ) (fe
   further_written : (ap_req : ApReqInner) (part : EncTicketPartInner) (service : PrincipalName) (suite : CipherSuite) (span : Span) (till : Option GeneralizedTime) → IsByTicket call request ap_req part
       → service_of body ≡ Some service → IsWritten Tgs (further_grant call part service suite body span till)
   further_written ap_req part service suite span till by named =
-      let opened = opened_fits {T = EncTicketPartInner} enc_ticket_part_tree by.granting.suite by.granting.key 2 ap_req.ticket.0.0.enc_part.0 part n by.opens
+      let own : AccountKeyRecord = chosen ap_req.ticket.0.0.enc_part.0 by.granting in
+      let opened = opened_fits {T = EncTicketPartInner} enc_ticket_part_tree own.suite own.key 2 ap_req.ticket.0.0.enc_part.0 part n by.opens
       (ticket_short n ap_req (carried_fits ap_req part by)) in
       let asked = body_fits n request fits in
       is_written n (further_grant call part service suite body span till)
@@ -198,7 +216,7 @@ module _ (call : CallRecord) (request : KdcReq) (is : IsCall call) (n : ℕ) (fe
       → IsByTicket call request ap_req part → IsOfKey ap_req part authenticated → service_of body ≡ Some service_name → IsKeyed service → HasOutcome (further call part authenticated service_name service body)
   has_further ap_req part authenticated service_name service by of_key named keyed =
       let asked = asked_options call.settings.policy body.kdc_options.0 in
-      let lifetime : ℕ = call.settings.lifetime in
+      let lifetime : ℕ = limited service call.settings.lifetime in
       let life : ℕ = call.settings.policy.renewable_life in
       let with_till : Span → CipherSuite → Option GeneralizedTime → GrantRecord = λ span suite till. further_grant call part service_name suite body span till in
       let to_seal : Span → CipherSuite → ReplyKeyRecord → Table (Result (List ℕ) ℕ) =
@@ -219,14 +237,19 @@ module _ (call : CallRecord) (request : KdcReq) (is : IsCall call) (n : ℕ) (fe
 
   has_granted : (ap_req : ApReqInner) (part : EncTicketPartInner) (authenticated : Authenticated) → IsByTicket call request ap_req part → IsOfKey ap_req part authenticated → HasOutcome (tgs_granted call part authenticated body)
   has_granted ap_req part authenticated by of_key =
-      let by_service : PrincipalName → AccountRecord → Table (Result (List ℕ) ℕ) = λ service_name service. further call part authenticated service_name service body in
-      let by_name : PrincipalName → Table (Result (List ℕ) ℕ) = λ service_name. need (call.look (components service_name)) 7 (by_service service_name) in
-      has_refused {T = List ℕ} (not (has_account call part.cname.0)) 6 (need (service_of body) 7 by_name)
-      (λ _.
-      has_needed (service_of body) 7 by_name
+      let to_grant : PrincipalName → AccountRecord → Table (Result (List ℕ) ℕ) = λ service_name service. further call part authenticated service_name service body in
+      let by_service : AccountRecord → PrincipalName → AccountRecord → Table (Result (List ℕ) ℕ) =
+      λ client service_name service. and_then {A = Unit {0}} (further_allowed call.moment client service) (λ _. to_grant service_name service) in
+      let by_name : AccountRecord → PrincipalName → Table (Result (List ℕ) ℕ) = λ client service_name. need (call.look (components service_name)) 7 (by_service client service_name) in
+      let by_client : AccountRecord → Table (Result (List ℕ) ℕ) = λ client. need (service_of body) 7 (by_name client) in
+      has_needed (call.look (components part.cname.0)) 6 by_client
+      (λ client a.
+      has_needed (service_of body) 7 (by_name client)
       (λ service_name b.
-      has_needed (call.look (components service_name)) 7 (by_service service_name)
-      (λ service c. has_further ap_req part authenticated service_name service by of_key b (is.keyed (components service_name) service c))))
+      has_needed (call.look (components service_name)) 7 (by_service client service_name)
+      (λ service c.
+      has_then {A = Unit {0}} (further_allowed call.moment client service) (λ _. to_grant service_name service) (has_further_allowed call.moment client service)
+      (λ _ d. has_further ap_req part authenticated service_name service by of_key b (is.keyed (components service_name) service c)))))
 
   has_of_authenticated : (ap_req : ApReqInner) (part : EncTicketPartInner) (authenticated : Authenticated) → IsByTicket call request ap_req part → IsOfKey ap_req part authenticated → HasOutcome (of_authenticated call body part authenticated)
   has_of_authenticated ap_req part authenticated by of_key =

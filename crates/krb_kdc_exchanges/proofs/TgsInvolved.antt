@@ -1,5 +1,5 @@
 -- What the table gives rests on the accounts that are looked up for it.
-use Rattle.std.proofs.Common.{◌≡◌, ℕ, not, List, Option, None, Some, Result, Ok, refl, subst, inl, inr}
+use Rattle.std.proofs.Common.{◌≡◌, ℕ, List, Option, None, Some, Result, Ok, refl, subst, inl, inr}
 use Rattle.krb_realm_accounts.specs.Account.{AccountRecord}
 use Rattle.krb_realm_accounts.specs.Accounts.{Look}
 use Rattle.krb_messages.specs.Names.{components}
@@ -7,9 +7,9 @@ use Rattle.krb_messages.specs.declared.data_types.enc_ticket_part.EncTicketPartI
 use Rattle.krb_messages.specs.declared.data_types.principal_name.PrincipalName.{PrincipalName}
 use Rattle.krb_messages.specs.declared.messages.ap_req.ApReqInner.{ApReqInner}
 use Rattle.krb_messages.specs.declared.messages.kdc_req.KdcReq.{KdcReq}
-use Rattle.std.specs.Option.{is_some}
-use Rattle.decision_tables.specs.Tables.{Table, and_then, need, refuse}
+use Rattle.decision_tables.specs.Tables.{Table, and_then, need}
 use Rattle.krb_ap_requests.specs.declared.presented.Authenticated.{Authenticated}
+use Rattle.krb_kdc_exchanges.specs.Allowed.{further_allowed, limited}
 use Rattle.krb_kdc_exchanges.specs.Call.{CallRecord}
 use Rattle.krb_kdc_exchanges.specs.Options.{asked_options}
 use Rattle.krb_kdc_exchanges.specs.Requests.{service_of}
@@ -24,14 +24,6 @@ pub same_need : {A : Type 0} (o p : Option A) → o ≡ p → (code : ℕ) (f g 
     → ((a : A) → o ≡ Some a → (f a).gives r → (g a).gives r) → (need {A = A} o code f).gives r → (need {A = A} p code g).gives r
 same_need None p e code f g r same x = subst (λ q. (need q code g).gives r) e x
 same_need (Some a) p e code f g r same x = subst (λ q. (need q code g).gives r) e (same a refl x)
-
-same_refuse : (o p : Option AccountRecord) → o ≡ p → (code : ℕ) (t u : Table (Result (List ℕ) ℕ)) (r : Result (List ℕ) ℕ) → (t.gives r → u.gives r)
-    → (refuse {T = List ℕ} (not (is_some o)) code t).gives r → (refuse {T = List ℕ} (not (is_some p)) code u).gives r
-same_refuse o p e code t u r same x = subst (λ q. (refuse {T = List ℕ} (not (is_some q)) code u).gives r) e (of_option o x)
-  where
-    of_option : (q : Option AccountRecord) → (refuse {T = List ℕ} (not (is_some q)) code t).gives r → (refuse {T = List ℕ} (not (is_some q)) code u).gives r
-    of_option None y = y
-    of_option (Some account) y = same y
 
 pub same_then : {A : Type 0} (t : Table (Result A ℕ)) (f g : A → Table (Result (List ℕ) ℕ)) (r : Result (List ℕ) ℕ)
     → ((a : A) → t.gives (Ok a) → (f a).gives r → (g a).gives r) → (and_then t f).gives r → (and_then t g).gives r
@@ -48,7 +40,7 @@ module _ (call : CallRecord) (other : Look) (request : KdcReq) (agree : (these :
       let body = request.req_body.0 in
       let asked = asked_options call.settings.policy body.kdc_options.0 in
       and_then {A = Unit {0}} (by_options call asked part name) (λ _.
-      and_then (further_lasting asked.renews call.settings.lifetime call.moment part body) (λ span.
+      and_then (further_lasting asked.renews (limited service call.settings.lifetime) call.moment part body) (λ span.
       need (first_granted (holds_back_des3 call.settings.policy client service) body.etype.0) 14 (λ suite.
       need (reply_key authenticated.suite part.key.0.key_value.0 (subkey_in authenticated.authenticator)) 31 (λ under.
       further_replied call part name service suite under (further_till asked.renews call.settings.policy.renewable_life part span body) body span))))
@@ -57,14 +49,20 @@ module _ (call : CallRecord) (other : Look) (request : KdcReq) (agree : (these :
       → (tgs_granted call part authenticated request.req_body.0).gives r → (tgs_granted beside part authenticated request.req_body.0).gives r
   same_granted ap_req part authenticated by =
       let body = request.req_body.0 in
-      let given : CallRecord → PrincipalName → AccountRecord → Table (Result (List ℕ) ℕ) = λ own name service. further own part authenticated name service body in
-      let by_name : CallRecord → PrincipalName → Table (Result (List ℕ) ℕ) = λ own name. need (own.look (components name)) 7 (given own name) in
-      let to_service : CallRecord → Table (Result (List ℕ) ℕ) = λ own. need (service_of body) 7 (by_name own) in
-      same_refuse (call.look (components part.cname.0)) (other (components part.cname.0)) (agree (components part.cname.0) (inr (inr (ap_req, part, by, refl)))) 6 (to_service call) (to_service beside) r
-      (same_need (service_of body) (service_of body) refl 7 (by_name call) (by_name beside) r
+      let to_grant : CallRecord → PrincipalName → AccountRecord → Table (Result (List ℕ) ℕ) = λ own name service. further own part authenticated name service body in
+      let given : CallRecord → AccountRecord → PrincipalName → AccountRecord → Table (Result (List ℕ) ℕ) =
+      λ own client name service. and_then {A = Unit {0}} (further_allowed call.moment client service) (λ _. to_grant own name service) in
+      let by_name : CallRecord → AccountRecord → PrincipalName → Table (Result (List ℕ) ℕ) = λ own client name. need (own.look (components name)) 7 (given own client name) in
+      let to_service : CallRecord → AccountRecord → Table (Result (List ℕ) ℕ) = λ own client. need (service_of body) 7 (by_name own client) in
+      let found = agree (components part.cname.0) (inr (inr (ap_req, part, by, refl))) in
+      same_need (call.look (components part.cname.0)) (other (components part.cname.0)) found 6 (to_service call) (to_service beside) r
+      (λ client a.
+      same_need (service_of body) (service_of body) refl 7 (by_name call client) (by_name beside client) r
       (λ name b.
-      same_need (call.look (components name)) (other (components name)) (agree (components name) (inr (inl (name, b, refl)))) 7 (given call name) (given beside name) r
-      (λ service c x. subst (λ client. (by_client part authenticated name service client).gives r) (agree (components part.cname.0) (inr (inr (ap_req, part, by, refl)))) x)))
+      same_need (call.look (components name)) (other (components name)) (agree (components name) (inr (inl (name, b, refl)))) 7 (given call client name) (given beside client name) r
+      (λ service c.
+      same_then {A = Unit {0}} (further_allowed call.moment client service) (λ _. to_grant call name service) (λ _. to_grant beside name service) r
+      (λ _ d x. subst (λ own. (by_client part authenticated name service own).gives r) found x))))
 
   same_of_carried : (ap_req : ApReqInner) → (carried (padata_in request)).gives (Ok ap_req)
       → (of_carried call request.req_body.0 ap_req).gives r → (of_carried beside request.req_body.0 ap_req).gives r

@@ -2,7 +2,7 @@
 use Rattle.std.proofs.Common.{◌≡◌, ℕ, List, Option, None, Some, Result, Ok, Err, refl, sym, subst, inl}
 use Rattle.krb_crypto.specs.declared.suite.CipherSuite.{CipherSuite}
 use Rattle.krb_crypto.specs.Keys.{KeyRecord}
-use Rattle.krb_realm_accounts.specs.Account.{AccountRecord}
+use Rattle.krb_realm_accounts.specs.Account.{AccountKeyRecord, AccountRecord}
 use Rattle.krb_messages.specs.Refusals.{IsJudged}
 use Rattle.krb_messages.specs.declared.data_types.enc_ticket_part.EncTicketPartInner.{EncTicketPartInner}
 use Rattle.krb_messages.specs.declared.refusal.Refusal.{Refusal}
@@ -15,10 +15,10 @@ use Rattle.krb_kdc_exchanges.specs.Granting.{IsGranted}
 use Rattle.krb_kdc_exchanges.specs.declared.granted.Granted.{Granted}
 use Rattle.krb_messages.specs.TicketGranting.{krbtgt_of}
 use Rattle.krb_kdc_exchanges.proofs.Parts.{part_passed, part_refused}
-use Rattle.krb_kdc_exchanges.specs.TgsTable.{client_and_times, of_carried, of_ticket, ticket_granting}
+use Rattle.krb_kdc_exchanges.specs.TgsTable.{client_and_times, granting_by, of_carried, of_ticket, ticket_granting}
 
 -- the ticket that a request presents is judged, by equal keys
-module _ (call : CallRecord) (granting : AccountRecord) (ap_req : ApReqInner) (kvno : ℕ) (numbered : kvno ≡ granting.kvno) where
+module _ (call : CallRecord) (granting : AccountKeyRecord) (ap_req : ApReqInner) (kvno : ℕ) (numbered : kvno ≡ granting.kvno) where
   abbrev fields : ℕ → Table (Result (Unit {0}) ℕ)
   fields n = ap_fields call.realm (krbtgt_of call.realm) n ap_req
 
@@ -29,7 +29,7 @@ module _ (call : CallRecord) (granting : AccountRecord) (ap_req : ApReqInner) (k
   end part = and_then {A = Unit {0}} (client_and_times call part) (λ _. done (Ok part))
 
   abbrev pub judged : Result EncTicketPartInner Refusal → Type 0
-  judged r = IsJudged (ticket_granting call granting ap_req).gives r
+  judged r = IsJudged (granting_by call granting ap_req).gives r
 
   own : (r : Result (Unit {0}) Refusal) → IsJudged (fields kvno).gives r → IsJudged (fields granting.kvno).gives r
   own r x = subst (λ n. IsJudged (fields n).gives r) numbered x

@@ -6,6 +6,7 @@ use Rattle.asn1_leaves.specs.GeneralizedTime.{seconds_of}
 use Rattle.picky_asn1.specs.Numbers.{is_number}
 use Rattle.picky_asn1.specs.Bytes.{Bytes}
 use Rattle.krb_time.specs.Skew.{is_before, is_far}
+use Rattle.krb_time.specs.Units.{Seconds}
 use Rattle.krb_crypto.specs.declared.suite.CipherSuite.{CipherSuite}
 use Rattle.krb_crypto.specs.Suites.{cipher_number}
 use Rattle.krb_realm_accounts.specs.Account.{AccountRecord}
@@ -24,6 +25,7 @@ use Rattle.krb_tickets.specs.ReplyKeys.{ReplyKeyRecord, as_reply_key}
 use Rattle.krb_kdc_exchanges.specs.AgreedKeys.{agreed_reply}
 use Rattle.krb_kdc_exchanges.specs.Rows.{PkinitRows}
 use Rattle.krb_kdc_exchanges.specs.Call.{CallRecord, pkinit_call, skew_of}
+use Rattle.krb_kdc_exchanges.specs.Allowed.{first_allowed, lifetime_of}
 use Rattle.krb_kdc_exchanges.specs.Grants.{granted}
 use Rattle.krb_kdc_exchanges.specs.Requests.{body_of, client_of, has_refused_option, header_rows, lasting, service_of}
 use Rattle.krb_messages.specs.Padata.{padata_in}
@@ -38,12 +40,12 @@ abbrev pub is_listed : CipherSuite → KdcReqBody → Bool
 is_listed suite body = list_any (λ etype. is_number (cipher_number suite) etype) body.etype.0
 
 -- the ticket's times, and its suite as the client's `etype` has to list it
-abbrev pub possible : CallRecord → CipherSuite → KdcReqBody → Table (Result Span Code)
-possible call suite body =
+abbrev pub possible : CallRecord → Seconds → CipherSuite → KdcReqBody → Table (Result Span Code)
+possible call lifetime suite body =
     -- `from` isn't later than now plus the clock skew (RFC 4120, section 3.1.3). Test: `granted, from at skew`,
     -- `from past skew, right PA-PK-AS-REQ` of `pkinit_exchanges.txt`.
     refuse (is_later call body) KDC_ERR_CANNOT_POSTDATE
-    (and_then (lasting call.settings.lifetime call.moment None body) (λ span.
+    (and_then (lasting lifetime call.moment None body) (λ span.
     -- `etype` lists the encryption type of the client's key (RFC 4120, section 3.1.3). Test: `as etype list` of `five_suites.txt`.
     refuse (not (is_listed suite body)) KDC_ERR_ETYPE_NOSUPP
     (done (Ok span))))
@@ -106,7 +108,8 @@ as_table call rows of_client of_service request =
     need (service_of (body_of request)) KDC_ERR_S_PRINCIPAL_UNKNOWN (λ service_name.
     -- `sname` has an account (RFC 4120, section 3.1.3). Test: `as service unknown`.
     need of_service KDC_ERR_S_PRINCIPAL_UNKNOWN (λ service.
-    and_then (possible call client.suite (body_of request)) (λ span.
+    and_then (first_allowed call.moment (record { client_name = client_name; client = client; service_name = service_name; service = service })) (λ _.
+    and_then (possible call (lifetime_of call.settings.lifetime client service) client.suite (body_of request)) (λ span.
     and_then (authenticated call rows client (components client_name) request) (λ under.
     -- The ticket has the flags initial and pre-authent, and a session key of the client's suite (RFC 4120, sections 2.1 and 3.1.3).
     -- Test: `as honest` of `kdc_exchanges.txt`.
@@ -115,4 +118,4 @@ as_table call rows of_client of_service request =
     -- A ticket is forwardable and proxiable where the client asks for it and the policy allows it (RFC 4120, sections 2.5, 2.6 and 3.1.3).
     -- Test: `as forwardable`, `as proxiable`, `as honest, company` of `company_realms.txt`.
     granted call (record { client_name = client_name; client = client; service_name = service_name; service = service })
-    under span (body_of request))))))))
+    under span (body_of request)))))))))

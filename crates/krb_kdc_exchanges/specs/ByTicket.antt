@@ -11,20 +11,20 @@ use Rattle.krb_messages.specs.declared.messages.kdc_req.KdcReq.{KdcReq}
 use Rattle.krb_messages.specs.Messages.{IsApReq}
 use Rattle.krb_messages.specs.Padata.{first_of}
 use Rattle.krb_ap_requests.specs.ApTable.{enc_part_in}
-use Rattle.krb_ap_requests.specs.Messages.{IsTicketPart}
 use Rattle.krb_kdc_exchanges.specs.Call.{CallRecord}
+use Rattle.krb_kdc_exchanges.specs.ChosenKeys.{OpensTicket}
 use Rattle.krb_kdc_exchanges.specs.Requests.{body_of, service_of}
 use Rattle.krb_messages.specs.Padata.{padata_in}
 use Rattle.krb_messages.specs.TicketGranting.{krbtgt_of}
 
--- the request presents a ticket with this part, encrypted under the key of the realm's ticket-granting service
+-- the request presents a ticket with this part, encrypted under a key of the realm's ticket-granting service: the one of its kvno
 pub record IsByTicket (call : CallRecord) (request : KdcReq) (ap_req : ApReqInner) (part : EncTicketPartInner) : Type 0 where
   pub value : Bytes
   pub first : first_of PA_TGS_REQ (padata_in request) ≡ Some value
   pub read : IsApReq value ap_req
   pub granting : AccountRecord
   pub account : call.look (krbtgt_of call.realm) ≡ Some granting
-  pub opens : IsTicketPart granting.suite granting.key (enc_part_in ap_req) part
+  pub opens : OpensTicket granting (enc_part_in ap_req) part
 
 -- these are the components of the ticket-granting service, of the service that the request names, or of the presented ticket's client
 abbrev pub IsInvolvedFurther : CallRecord → KdcReq → List Bytes → Type 0

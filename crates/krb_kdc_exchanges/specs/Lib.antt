@@ -11,6 +11,8 @@ pub mod Granting
 pub mod Preauthentication
 pub mod Grants
 pub mod AgreedKeys
+pub mod Allowed
+pub mod ChosenKeys
 pub mod AsTable
 pub mod TgsTable
 pub mod Before

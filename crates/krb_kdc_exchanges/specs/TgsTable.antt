@@ -16,7 +16,7 @@ use Rattle.krb_crypto.specs.declared.suite.CipherSuite.TheVariants.{Des3CbcSha1K
 use Rattle.krb_crypto.specs.declared.suite.ChecksumSuite.{ChecksumSuite}
 use Rattle.krb_crypto.specs.Sealing.{checksum_of}
 use Rattle.krb_crypto.specs.Suites.{checksum_number, checksum_suites, cipher_checksum, cipher_number, cipher_suites}
-use Rattle.krb_realm_accounts.specs.Account.{AccountRecord}
+use Rattle.krb_realm_accounts.specs.Account.{AccountKeyRecord, AccountRecord}
 use Rattle.krb_realm_accounts.specs.declared.policy.Policy.{Policy}
 use Rattle.krb_messages.specs.Names.{components, is_same_name, is_same_realm}
 use Rattle.krb_messages.specs.declared.data_types.authenticator.AuthenticatorInner.{AuthenticatorInner}
@@ -48,6 +48,8 @@ use Rattle.krb_tickets.specs.ReplyKeys.{ReplyKeyRecord, tgs_reply_key, tgs_subke
 use Rattle.krb_ap_requests.specs.ApTable.{ap_fields, authenticated, enc_part_in, opened_part, timely}
 use Rattle.krb_ap_requests.specs.declared.presented.Authenticated.{Authenticated}
 use Rattle.krb_kdc_exchanges.specs.Call.{CallRecord, skew_of}
+use Rattle.krb_kdc_exchanges.specs.Allowed.{further_allowed, limited}
+use Rattle.krb_kdc_exchanges.specs.ChosenKeys.{chosen}
 use Rattle.krb_kdc_exchanges.specs.Granting.{replied}
 use Rattle.krb_kdc_exchanges.specs.Options.{asked_options, has_option_beyond}
 use Rattle.krb_kdc_exchanges.specs.Renewals.{IsTill, asked_till, granted_till, is_outlived, is_renewable, life_of, renew_till_of, sole_till}
@@ -86,13 +88,19 @@ client_and_times call part =
     refuse (not (is_same_realm part.crealm.0 call.realm)) KDC_ERR_WRONG_REALM
     (timely (skew_of call) call.moment part)
 
--- the part of the presented ticket, which is for the realm's ticket-granting service
-abbrev pub ticket_granting : CallRecord → AccountRecord → ApReqInner → Table (Result EncTicketPartInner Code)
-ticket_granting call granting ap_req =
-    and_then (ap_fields call.realm (krbtgt_of call.realm) granting.kvno ap_req) (λ _.
-    and_then (opened_part granting.suite granting.key (enc_part_in ap_req)) (λ part.
+-- the part of the presented ticket, which is for the realm's ticket-granting service, by this key
+abbrev pub granting_by : CallRecord → AccountKeyRecord → ApReqInner → Table (Result EncTicketPartInner Code)
+granting_by call own ap_req =
+    and_then (ap_fields call.realm (krbtgt_of call.realm) own.kvno ap_req) (λ _.
+    and_then (opened_part own.suite own.key (enc_part_in ap_req)) (λ part.
     and_then (client_and_times call part) (λ _.
     done (Ok part))))
+
+-- The part of the presented ticket, by the key of the ticket-granting service that has its kvno.
+-- A ticket opens under an older key of krbtgt, by its kvno, as long as the account has it (RFC 4120, section 5.2.9). Test:
+-- `tgs older key`, `tgs older key, no kvno`, `tgs purged key`.
+abbrev pub ticket_granting : CallRecord → AccountRecord → ApReqInner → Table (Result EncTicketPartInner Code)
+ticket_granting call granting ap_req = granting_by call (chosen (enc_part_in ap_req) granting) ap_req
 
 -- The authenticator of a TGS request decrypts under the session key, for key usage 7 (RFC 4120, section 7.5.1).
 -- Test: `tgs authenticator wrong usage`.
@@ -291,7 +299,7 @@ further_replied call part service_name service suite under wanted body span =
 -- the rows behind those for options: the ticket's times, the suite of its session key, and the reply key
 abbrev pub further_in : Bool → CallRecord → EncTicketPartInner → Authenticated → PrincipalName → AccountRecord → KdcReqBody → Table (Result Bytes Code)
 further_in renews call part authenticated service_name service body =
-    and_then (further_lasting renews call.settings.lifetime call.moment part body) (λ span.
+    and_then (further_lasting renews (limited service call.settings.lifetime) call.moment part body) (λ span.
     -- `etype` lists a known encryption type; the session key is of the first that is known (RFC 4120, section 3.3.3). Test:
     -- `tgs no known suite`, `tgs first known suite` of `five_suites.txt`.
     -- Where the policy limits triple DES, a session key is of it only if client or service has such a key (RFC 8429, section 7). Test:
@@ -313,20 +321,22 @@ abbrev pub further : CallRecord → EncTicketPartInner → Authenticated → Pri
 further call part authenticated service_name service body =
     further_by (asked_options call.settings.policy body.kdc_options.0) call part authenticated service_name service body
 
--- the name has an account
-abbrev pub has_account : CallRecord → PrincipalName → Bool
-has_account call name = is_some (call.look (components name))
+-- the reply to a client with this account, for a service with this one, where their attributes allow it
+abbrev pub allowed_further : CallRecord → EncTicketPartInner → Authenticated → AccountRecord → PrincipalName → AccountRecord → KdcReqBody → Table (Result Bytes Code)
+allowed_further call part authenticated client service_name service body =
+    and_then (further_allowed call.moment client service) (λ _.
+    further call part authenticated service_name service body)
 
 -- the reply to the ticket's client, whose authenticator covers the body: client and service still have accounts
 abbrev pub tgs_granted : CallRecord → EncTicketPartInner → Authenticated → KdcReqBody → Table (Result Bytes Code)
 tgs_granted call part authenticated body =
     -- The ticket's client still has an account (RFC 4120, section 3.3.3). Test: `tgs client no account, service unknown`.
-    refuse (not (has_account call part.cname.0)) KDC_ERR_C_PRINCIPAL_UNKNOWN
+    need (call.look (components part.cname.0)) KDC_ERR_C_PRINCIPAL_UNKNOWN (λ client.
     -- `sname` is there (RFC 4120, section 5.4.1). Test: `tgs service absent`.
-    (need (service_of body) KDC_ERR_S_PRINCIPAL_UNKNOWN (λ service_name.
+    need (service_of body) KDC_ERR_S_PRINCIPAL_UNKNOWN (λ service_name.
     -- `sname` has an account (RFC 4120, section 3.3.3). Test: `tgs service unknown`.
     need (call.look (components service_name)) KDC_ERR_S_PRINCIPAL_UNKNOWN (λ service.
-    further call part authenticated service_name service body)))
+    allowed_further call part authenticated client service_name service body)))
 
 -- the rows that read the authenticator: its checksum covers the body, and the ticket is granted
 abbrev pub of_authenticated : CallRecord → KdcReqBody → EncTicketPartInner → Authenticated → Table (Result Bytes Code)

@@ -8,4 +8,5 @@ mod judge;
 pub mod laws;
 mod whole;
 
+pub(crate) use grant::Principals;
 pub use whole::judge_as;

@@ -1,10 +1,15 @@
 //! Laws of every realm's replies.
-ghost use Rattle.std.specs.Prelude.{◌≡◌, ◌↔◌, ◌<◌, ◌^◌, ℕ, List, Option, Result, length};
+ghost use Rattle.std.specs.Prelude.{◌≡◌, ◌↔◌, ◌<◌, ◌^◌, ℕ, List, [], Ok, Option, Result, length};
 ghost use Rattle.block_ciphers.specs.Bytes.{IsBytes};
 ghost use Rattle.krb_messages.specs.declared.messages.kdc_req.KdcReq.{KdcReq};
 ghost use Rattle.krb_realm_accounts.specs.Account.{AccountRecord};
 ghost use Rattle.krb_kdc_exchanges.specs.AsTable.{as_table};
-ghost use Rattle.krb_kdc_exchanges.specs.Before.{plain_as_table, plain_tgs_table, without_policy};
+ghost use Rattle.krb_kdc_exchanges.specs.Allowed.{first_allowed, further_allowed, lifetime_of};
+ghost use Rattle.krb_kdc_exchanges.specs.Before.{IsFree, plain_as_table, plain_tgs_table, without_policy};
+ghost use Rattle.krb_kdc_exchanges.specs.ChosenKeys.{chosen};
+ghost use Rattle.krb_kdc_exchanges.specs.Grants.{Principals};
+ghost use Rattle.krb_messages.specs.declared.data_types.encrypted_data.EncryptedData.{EncryptedData};
+ghost use Rattle.krb_realm_accounts.specs.Account.{newest};
 ghost use Rattle.krb_kdc_exchanges.specs.Call.{CallRecord};
 ghost use Rattle.krb_kdc_exchanges.specs.Calls.{IsCall};
 ghost use Rattle.krb_kdc_exchanges.specs.Involved.{IsOfInvolvedAlone};
@@ -41,4 +46,13 @@ pub fn as_before<P: Pkinit>(pkinit: &P)
         ↔ (plain_as_table (without_policy call) (P.rows pkinit.now) of_client of_service request).gives r) }
     ensures further { (call : CallRecord) (request : KdcReq) (r : Result (List ℕ) ℕ)
         → ((tgs_table (without_policy call) request).gives r ↔ (plain_tgs_table (without_policy call) request).gives r) }
+{}
+
+/// Accounts without attributes are judged as if there were none: no row of these refuses, and the lifetime is that of the settings. A
+/// ticket for an account with one key opens under that key. It does nothing when it runs: its contract is the law.
+pub fn plain_accounts_as_before()
+    ensures first { (moment : ℕ) (these : Principals) → IsFree these.client → IsFree these.service → (first_allowed moment these).gives (Ok tt) }
+    ensures further { (moment : ℕ) (client service : AccountRecord) → IsFree client → IsFree service → (further_allowed moment client service).gives (Ok tt) }
+    ensures lifetime { (lifetime : ℕ) (client service : AccountRecord) → IsFree client → IsFree service → lifetime_of lifetime client service ≡ lifetime }
+    ensures key { (encrypted : EncryptedData) (account : AccountRecord) → account.former ≡ [] → chosen encrypted account ≡ newest account }
 {}

@@ -20,7 +20,7 @@ use krb_messages::data_types::PrincipalName;
 use krb_messages::messages::{KdcReq, KdcReqBody};
 use krb_messages::random_bytes::SESSION_SEED;
 use krb_messages::{Refusal, is_number, is_same_realm};
-use krb_realm_accounts::{Account, Accounts, Settings};
+use krb_realm_accounts::{Account, Accounts};
 use krb_tickets::key_at;
 use krb_time::Moment;
 use picky_asn1::date::GeneralizedTime;
@@ -127,15 +127,16 @@ pub fn account_of<'a>(accounts: &'a Accounts, name: Option<&PrincipalName>) -> O
 /// The starttime and endtime of a ticket that is granted at a moment. `old` is the presented ticket's endtime, in a TGS
 /// exchange. A ticket that would end where it starts, or earlier, is refused.
 pub fn lasting(
-    settings: Settings,
+    lifetime: u64,
     moment: Moment,
     old: Option<GeneralizedTime>,
     body: &KdcReqBody,
 ) -> Result<Span, Refusal>
-    ensures { IsJudged (lasting settings.lifetime moment (option_map seconds_of old) body.now).gives result }
+    requires { lifetime ≤ last_second }
+    ensures { IsJudged (lasting lifetime moment (option_map seconds_of old) body.now).gives result }
 {
     let till = body.till.0.0.seconds();
-    lasting_to(settings.lifetime(), moment, old, till)
+    lasting_to(lifetime, moment, old, till)
 }
 
 /// The same by this lifetime, for a `till` in seconds.

@@ -12,11 +12,12 @@
 //!
 //! `command_of` returns what the arguments ask for, as `command_in` says, and `moment_of` the moment that the text behind `--at` names. A
 //! `Stop` is displayed as `stop_text`, but for `Database` and `Words`. `serve_database` reads and writes nothing of its streams where it
-//! stops with status 1. `serve_realm` promises what is served, for every type of file, stream and clock. Where the octets are known, the
-//! output is the frames of the replies of the file's realm (`RepliesFrom`). A message that is no request gets an empty frame (`Tolerates`),
-//! and serving goes on. `serve_realm_at` promises the same at its moment. Both pass over no failed call of a device (`AnswersFailures`).
-//! The path that `open_random` notes is the one that the arguments name as WORDS, and that of `database_of` the one that they name as
-//! DATABASE. No contract says that octets come from there, or what a file of the system or standard output holds.
+//! stops with status 1. `serve_realm` promises what is served, for every type of file, stream and clock. Where the octets of file, streams
+//! and random octets are known, the output is the frames of the replies of the file's realm up to a fault (`RepliesFrom`). A message that
+//! is no request gets an empty frame (`Tolerates`), and serving goes on. `serve_realm_at` promises the same at its moment. Both pass over
+//! no failed call of a device (`AnswersFailures`). The path that `open_random` notes is the one that the arguments name as WORDS, and that
+//! of `database_of` the one that they name as DATABASE. No contract says that octets come from there, or what a file of the system or
+//! standard output holds.
 #![tactic(auto)]
 
 mod arguments;

@@ -32,7 +32,7 @@ use Rattle.krb_tickets.specs.MethodData.{pa_data_of}
 use Rattle.krb_client.specs.EncryptedTimestamps.{IsSealedTime, IsPaEncTimestamp, by_key, timestamp_of}
 use Rattle.krb_service.specs.Service.{ServiceRecord}
 use Rattle.krb_logins.specs.Authenticated.{IsAgreedKey, IsAuthenticatedFor, as_body_of_login, first_asked}
-use Rattle.krb_logins.specs.Honest.{AreEnough, AreParties, IsGranting, IsHonestByPassword, realm_skew}
+use Rattle.krb_logins.specs.Honest.{AreEnough, AreParties, AreUnlimited, IsGranting, IsHonestByPassword, realm_skew}
 use Rattle.krb_logins.specs.Laws.{IsMet}
 use Rattle.krb_logins.specs.Parties.{LoginRecord, RealmRecord, RememberedRecord, call_at}
 use Rattle.krb_logins.specs.Steps.{AreDecided}
@@ -138,13 +138,14 @@ module _ (client : ClientRecord) (key : Bytes) (realm : RealmRecord) (rows : Pki
 
 -- an honest login by password is met by the means of that key, whatever the realm judges PA-PK-AS-REQ by
 pub met_by_password : (client : ClientRecord) (key : Bytes) (realm : RealmRecord) (rows : PkinitRows) (service : ServiceRecord) (before : RememberedRecord) (login : LoginRecord)
-    → AreParties client service → AreEnough login → IsGranting realm → AreKeyed realm.look → IsHonestByPassword client key realm service before login
+    → AreParties client service → AreEnough login → IsGranting realm → AreKeyed realm.look → AreUnlimited client service realm → IsHonestByPassword client key realm service before login
     → IsMet client (by_key client.suite key) realm rows service before login
-met_by_password client key realm rows service before login parties enough granting keyed by = record {
+met_by_password client key realm rows service before login parties enough granting keyed unlimited by = record {
   parties = parties;
   enough = enough;
   granting = granting;
   keyed = keyed;
+  unlimited = unlimited;
   honest = by.honest;
   authenticated = authenticated_by_key client key realm rows by.honest.client.account login (as_body_of_login client login)
       by.honest.client.suite by.shared by.honest.timely.as_near;

@@ -26,6 +26,8 @@ use Rattle.krb_tickets.specs.Grant.{GrantRecord}
 use Rattle.krb_tickets.specs.Parts.{session_key_of}
 use Rattle.krb_tickets.specs.ReplyKeys.{ReplyKeyRecord}
 use Rattle.krb_tickets.specs.Granted.{IsTicketReply}
+use Rattle.krb_kdc_exchanges.proofs.PlainAccounts.{first_plain, lifetime_plain}
+use Rattle.krb_kdc_exchanges.specs.Allowed.{first_allowed, lifetime_of}
 use Rattle.krb_kdc_exchanges.specs.AsTable.{as_table, authenticated, is_later, is_listed, possible}
 use Rattle.krb_kdc_exchanges.specs.Call.{CallRecord}
 use Rattle.krb_kdc_exchanges.specs.Grants.{Principals, granted, initial_grant, initial_till}
@@ -75,7 +77,7 @@ module _ (call : CallRecord) (suite : CipherSuite) (body : KdcReqBody) where
 
   found_possible : is_later call body ≡ false → is_listed suite body ≡ true
       → ((span : Span) → IsSpan call.settings.lifetime call.moment None (seconds_of body.till.0.0) span → is_ended span ≡ false)
-      → (r : Result Span ℕ) → (possible call suite body).gives r
+      → (r : Result Span ℕ) → (possible call call.settings.lifetime suite body).gives r
       → (span : Span) × IsSpan call.settings.lifetime call.moment None (seconds_of body.till.0.0) span × (r ≡ Ok span)
   found_possible later listed not_ended r x =
       let timely = past_refuse {T = Span} {E = ℕ} (is_later call body) 10 (and_then (lasting call.settings.lifetime call.moment None body) in_suite) r later x in
@@ -109,11 +111,18 @@ module _ (IsKey : ReplyKeyRecord → Type 0) (call : CallRecord) (rows : PkinitR
   to_grant asked span =
       and_then (authenticated call rows asked.client (components asked.client_name) request) (λ under. granted call asked under span request.req_body.0)
 
+  -- how long a ticket lasts at most
+  abbrev lifetime : Principals → Seconds
+  lifetime asked = lifetime_of call.settings.lifetime asked.client asked.service
+
   abbrev to_be_possible : Principals → Table (Result Bytes ℕ)
-  to_be_possible asked = and_then (possible call asked.client.suite request.req_body.0) (to_grant asked)
+  to_be_possible asked = and_then (possible call (lifetime asked) asked.client.suite request.req_body.0) (to_grant asked)
+
+  abbrev to_be_allowed : Principals → Table (Result Bytes ℕ)
+  to_be_allowed asked = and_then {A = Unit {0}} (first_allowed call.moment asked) (λ _. to_be_possible asked)
 
   abbrev by_service : PrincipalName → AccountRecord → PrincipalName → AccountRecord → Table (Result Bytes ℕ)
-  by_service client_name client service_name service = to_be_possible (asked_by client_name client service_name service)
+  by_service client_name client service_name service = to_be_allowed (asked_by client_name client service_name service)
 
   abbrev by_service_name : PrincipalName → AccountRecord → PrincipalName → Table (Result Bytes ℕ)
   by_service_name client_name client service_name = need of_service 7 (by_service client_name client service_name)
@@ -131,19 +140,21 @@ module _ (IsKey : ReplyKeyRecord → Type 0) (call : CallRecord) (rows : PkinitR
       → (header_rows 10 call.realm (has_refused_option request.req_body.0.kdc_options.0) request).gives (Ok tt)
       → client_of request.req_body.0 ≡ Some asked.client_name → of_client ≡ Some asked.client
       → service_of request.req_body.0 ≡ Some asked.service_name → of_service ≡ Some asked.service
-      → ((s : Result Span ℕ) → (possible call asked.client.suite request.req_body.0).gives s
+      → (first_allowed call.moment asked).gives (Ok tt)
+      → ((s : Result Span ℕ) → (possible call (lifetime asked) asked.client.suite request.req_body.0).gives s
       → (span : Span) × IsSpan call.settings.lifetime call.moment None (seconds_of request.req_body.0.till.0.0) span × (s ≡ Ok span))
       → ((s : Result ReplyKeyRecord ℕ) → (authenticated call rows asked.client (components asked.client_name) request).gives s
       → (under : ReplyKeyRecord) × IsKey under × (s ≡ Ok under))
       → (as_table call rows of_client of_service request).gives r → IsGrantedBy IsKey call asked request.req_body.0 r
-  granted_by asked r for_us client_name client service_name service can_be can_show x =
+  granted_by asked r for_us client_name client service_name service allowed can_be can_show x =
       let a = past_then {A = Unit {0}} {T = Bytes} (header_rows 10 call.realm (has_refused_option request.req_body.0.kdc_options.0) request) (λ _. to_name) tt r for_us x in
       let b = past_need {T = Bytes} {E = ℕ} (client_of request.req_body.0) 6 by_client_name asked.client_name r client_name a in
       let c = past_need {T = Bytes} {E = ℕ} of_client 6 (by_client asked.client_name) asked.client r client b in
       let d = past_need {T = Bytes} {E = ℕ} (service_of request.req_body.0) 7 (by_service_name asked.client_name asked.client) asked.service_name r service_name c in
       let e = past_need {T = Bytes} {E = ℕ} of_service 7 (by_service asked.client_name asked.client asked.service_name) asked.service r service d in
+      let i = past_then {A = Unit {0}} {T = Bytes} (first_allowed call.moment asked) (λ _. to_be_possible asked) tt r allowed e in
       let f = past_found {A = Span} {T = Bytes} (IsSpan call.settings.lifetime call.moment None (seconds_of request.req_body.0.till.0.0))
-      (possible call asked.client.suite request.req_body.0) (to_grant asked) r can_be e in
+      (possible call (lifetime asked) asked.client.suite request.req_body.0) (to_grant asked) r can_be i in
       let g = past_found {A = ReplyKeyRecord} {T = Bytes} IsKey (authenticated call rows asked.client (components asked.client_name) request)
       (λ under. granted call asked under f.0 request.req_body.0) r can_show f.2 in
       record {
@@ -229,8 +240,20 @@ module _ (client : ClientRecord) (options : TicketOptions) (means : MeansRecord)
   not_ended : (span : Span) → IsFirstSpan realm login span → is_ended span ≡ false
   not_ended span is = lasts (start_of login.realm_as) (first_end realm login) span is.starts is.ends honest.lasts
 
-  can_be : (r : Result Span ℕ) → (possible call asked.client.suite body).gives r → (span : Span) × IsFirstSpan realm login span × (r ≡ Ok span)
-  can_be = found_possible call asked.client.suite body refl (listed client options (krbtgt_of client.realm) login.till login.words_as asked.client.suite one.known.suite) not_ended
+  -- nobody sets an attribute for the accounts, so that no row of these refuses, and the ticket lasts as long as the realm's settings allow
+  allowed : (first_allowed login.realm_as asked).gives (Ok tt)
+  allowed = first_plain login.realm_as asked one.free honest.granting_free
+
+  abbrev own_lifetime : Seconds
+  own_lifetime = lifetime_of realm.settings.lifetime asked.client asked.service
+
+  lifetime_is : own_lifetime ≡ realm.settings.lifetime
+  lifetime_is = lifetime_plain realm.settings.lifetime asked.client asked.service one.free honest.granting_free
+
+  can_be : (r : Result Span ℕ) → (possible call own_lifetime asked.client.suite body).gives r → (span : Span) × IsFirstSpan realm login span × (r ≡ Ok span)
+  can_be r x =
+      found_possible call asked.client.suite body refl (listed client options (krbtgt_of client.realm) login.till login.words_as asked.client.suite one.known.suite) not_ended r
+      (subst (λ n. (possible call n asked.client.suite body).gives r) lifetime_is x)
 
   abbrev IsAgreed : ReplyKeyRecord → Type 0
   IsAgreed under = IsAgreedKey client means (first_asked client login) under
@@ -244,7 +267,7 @@ module _ (client : ClientRecord) (options : TicketOptions) (means : MeansRecord)
   grants padata it r x =
       granted_by IsAgreed call rows (realm.look client.components) (realm.look (krbtgt_of client.realm)) (request_with padata) asked r
       (for_realm padata client options (krbtgt_of client.realm) login.till login.words_as realm.name honest.not_forwarded honest.not_renewed one.same)
-      refl one.known.found refl granting_found can_be (can_show padata it) x
+      refl one.known.found refl granting_found allowed can_be (can_show padata it) x
 
   -- with the client's suite in place of its account's
   abbrev grant_in : Span → Option GeneralizedTime → CipherSuite → GrantRecord

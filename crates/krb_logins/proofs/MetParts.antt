@@ -24,12 +24,20 @@ never is = absurd (cc (is))
 module _ (client : ClientRecord) (means : MeansRecord) (realm : RealmRecord) (rows : PkinitRows) (service : ServiceRecord) (before : RememberedRecord) (login : LoginRecord)
     (met : IsMet client means realm rows service before login) where
   abbrev pub one_realm : AreOfOneRealm client realm
-  one_realm = record { realm_name = met.parties.realm; name = met.parties.name; same = met.honest.named.client; known = met.honest.client; keyed = met.keyed }
+  one_realm = record {
+    realm_name = met.parties.realm;
+    name = met.parties.name;
+    same = met.honest.named.client;
+    known = met.honest.client;
+    free = met.unlimited.client_free met.honest.client.account met.honest.client.found;
+    keyed = met.keyed;
+  }
 
   abbrev pub as_honest : IsAsHonest client plain_options means realm rows met.honest.client.account login
   as_honest = record {
     enough = met.enough.realm_as;
     granting = met.granting;
+    granting_free = met.unlimited.granting_free met.granting.account met.granting.found;
     not_renewed = refl;
     not_forwarded = refl;
     lasts = met.honest.timely.first.lasts;
@@ -72,6 +80,7 @@ module _ (client : ClientRecord) (means : MeansRecord) (realm : RealmRecord) (ro
       named = subst (λ name. are_components name ≡ true) (sym met.honest.named.asked) met.parties.entry.1.1;
       account = met.honest.service.account;
       found = ap realm.look met.honest.named.asked ∙ met.honest.service.found;
+      free = met.unlimited.service_free met.honest.service.account met.honest.service.found;
       near = met.honest.timely.tgs_near;
       valid = valid;
       lasts = λ is. further_lasts;

@@ -31,7 +31,7 @@ use Rattle.krb_messages.specs.declared.messages.ap_req.ApReqInner.{ApReqInner}
 use Rattle.krb_messages.specs.declared.messages.kdc_req.KdcReq.{KdcReq}
 use Rattle.krb_messages.specs.declared.messages.kdc_req_body.KdcReqBody.{KdcReqBody}
 use Rattle.krb_messages.specs.Messages.{IsApReq, IsAsReq, IsTgsReq, enc_ticket_part_tree, sole_ap_req, sole_as_req, sole_tgs_req}
-use Rattle.krb_realm_accounts.specs.Account.{AccountRecord}
+use Rattle.krb_realm_accounts.specs.Account.{AccountKeyRecord, AccountRecord, newest}
 use Rattle.krb_realm_accounts.specs.declared.policy.Policy.{Policy}
 use Rattle.decision_tables.specs.Some.{HasSome}
 use Rattle.decision_tables.specs.Tables.{Table, and_then, ask, done, need, refuse}
@@ -50,6 +50,7 @@ use Rattle.krb_ap_requests.specs.Messages.{IsAuthenticator, IsTicketPart, sole_a
 use Rattle.krb_ap_requests.specs.Presents.{request_of}
 use Rattle.krb_ap_requests.specs.declared.presented.Authenticated.{Authenticated}
 use Rattle.krb_kdc_exchanges.specs.Rows.{PkinitRows}
+use Rattle.krb_kdc_exchanges.specs.Allowed.{further_allowed, limited}
 use Rattle.krb_kdc_exchanges.specs.Call.{CallRecord, skew_of}
 use Rattle.krb_kdc_exchanges.specs.Options.{asked_options, grants_renewable, has_option_beyond}
 use Rattle.krb_kdc_exchanges.specs.Renewals.{IsTill, is_outlived, is_renewable}
@@ -58,8 +59,10 @@ use Rattle.krb_kdc_exchanges.specs.Requests.{account_of, client_of, is_postdated
 use Rattle.krb_messages.specs.Bodies.{body_bytes}
 use Rattle.krb_messages.specs.TicketGranting.{krbtgt_of}
 use Rattle.krb_kdc_exchanges.specs.declared.span.Span.{Span}
+use Rattle.krb_kdc_exchanges.proofs.KeyChoice.{newest_fits}
+use Rattle.krb_kdc_exchanges.proofs.PlainAccounts.{further_plain, limited_plain}
 use Rattle.krb_kdc_exchanges.specs.TgsTable as table
-use Rattle.krb_kdc_exchanges.specs.TgsTable.{carried, client_and_times, covered, further, is_known_checksum, is_of_body, of_carried, of_authenticated, of_ticket, authenticated_near, tgs_granted, tgs_table, ticket_granting, to_us}
+use Rattle.krb_kdc_exchanges.specs.TgsTable.{carried, client_and_times, covered, further, granting_by, is_known_checksum, is_of_body, of_carried, of_authenticated, of_ticket, authenticated_near, tgs_granted, tgs_table, ticket_granting, to_us}
 use Rattle.krb_kdc_exchanges.specs.Replies.{Replies, as_reply, reply_of, tgs_reply}
 use Rattle.krb_client.specs.Authenticators.{IsApRequest, authenticator_with, authenticator_parts_of}
 use Rattle.krb_client.specs.Client.{ClientRecord, CredentialRecord}
@@ -79,7 +82,7 @@ use Rattle.krb_logins.proofs.Giving.{by_ask, by_need, by_refuse, past_found}
 use Rattle.krb_logins.proofs.GrantTaken.{session_key_sized, suite_of_key}
 use Rattle.krb_logins.proofs.LastSecond.{second_below}
 use Rattle.krb_logins.proofs.Names.{component_texts, granting_texts, own_name, own_realm, realm_text, same_name, same_realm}
-use Rattle.krb_logins.proofs.Passing.{past_ask, past_need, past_none, past_refuse, past_then}
+use Rattle.krb_logins.proofs.Passing.{past_ask, past_need, past_none, past_then}
 use Rattle.krb_logins.proofs.PresentedRuns.{choice_of, written}
 use Rattle.krb_logins.proofs.Replying.{replies_at}
 use Rattle.krb_logins.proofs.TicketTimes.{not_early, not_late}
@@ -353,6 +356,18 @@ module _ (client : ClientRecord) (realm : RealmRecord) (rows : PkinitRows) (exch
       (is.ends ∙ ap (λ (o : Option Seconds). end_of life start o no_end) till) (renewed_lasts life start allowed.till lives allowed.later))
       r told
 
+  -- nobody sets an attribute for the service's account, so that the ticket lasts as long as the realm's settings allow
+  abbrev own_lasting : Table (Result Span ℕ)
+  own_lasting = table.further_lasting renews (limited honest.account realm.settings.lifetime) exchange.realm_at (ticket_part old) body
+
+  lasting_as : (r : Result Span ℕ) → own_lasting.gives r → (lasting_by renews).gives r
+  lasting_as r x =
+      subst (λ n. (table.further_lasting renews n exchange.realm_at (ticket_part old) body).gives r) (limited_plain realm.settings.lifetime honest.account honest.free) x
+
+  -- and no row of attributes refuses
+  allowed_further : (further_allowed exchange.realm_at one.known.account honest.account).gives (Ok tt)
+  allowed_further = further_plain exchange.realm_at one.known.account honest.account one.free honest.free
+
   found_next : (b : Bool) → renews ≡ b → (r : Result Span ℕ) → (lasting_by b).gives r → (span : Span) × IsNextSpan b realm exchange old span × (r ≡ Ok span)
   found_next true is r x = found_renewed (honest.renews is) r x
   found_next false is r x = found_further (honest.lasts is) r x
@@ -408,8 +423,14 @@ module _ (client : ClientRecord) (realm : RealmRecord) (rows : PkinitRows) (exch
           by_ask (IsTicketPart entry.suite entry.key presented.ticket.0.0.enc_part.0) (sole_ticket_part entry.suite entry.key presented.ticket.0.0.enc_part.0) (done (Err 31)) (λ part. done (Ok part))
           (ticket_part old) (Ok (ticket_part old)) is_part refl
 
+      of_newest : (granting_by call (newest holds.account) presented).gives (Ok (ticket_part old))
+      of_newest = inl (tt, for_us, inl (ticket_part old, opens, inl (tt, counts, refl)))
+
+      -- the ticket has the kvno of the newest key
       of_granting : (ticket_granting call holds.account presented).gives (Ok (ticket_part old))
-      of_granting = inl (tt, for_us, inl (ticket_part old, opens, inl (tt, counts, refl)))
+      of_granting =
+          subst (λ (own : AccountKeyRecord). (granting_by call own presented).gives (Ok (ticket_part old)))
+          (sym (newest_fits presented.ticket.0.0.enc_part.0 holds.account (own_number holds.account.kvno))) of_newest
 
       -- the authenticator is under the session's key, and of the ticket's client
       is_authenticator : IsAuthenticator client.suite session 7 presented.authenticator.0 authenticator
@@ -508,8 +529,16 @@ module _ (client : ClientRecord) (realm : RealmRecord) (rows : PkinitRows) (exch
       abbrev behind_options : Unit {0} → Table (Result Bytes ℕ)
       behind_options _ = table.further_in renews call (ticket_part old) shown (principal_name 2 exchange.service) honest.account body
 
-      abbrev by_name : PrincipalName → Table (Result Bytes ℕ)
-      by_name name = need (call.look (components name)) 7 (λ account. further call (ticket_part old) shown name account body)
+      -- the rows of client and service
+      abbrev allowed_by : PrincipalName → AccountRecord → AccountRecord → Table (Result Bytes ℕ)
+      allowed_by name account own =
+          and_then {A = Unit {0}} (further_allowed exchange.realm_at account own) (λ _. further call (ticket_part old) shown name own body)
+
+      abbrev by_name : AccountRecord → PrincipalName → Table (Result Bytes ℕ)
+      by_name account name = need (call.look (components name)) 7 (allowed_by name account)
+
+      abbrev by_client : AccountRecord → Table (Result Bytes ℕ)
+      by_client account = need (service_of body) 7 (by_name account)
 
       -- the same grant with other addresses
       abbrev addressed : Span → Option GeneralizedTime → Option (List HostAddress) → GrantRecord
@@ -518,12 +547,13 @@ module _ (client : ClientRecord) (realm : RealmRecord) (rows : PkinitRows) (exch
       grants_further : (r : Result Bytes ℕ) → (tgs_granted call (ticket_part old) shown body).gives r → IsGrantedBy r
       unfolding ticket_part
       grants_further r x =
-          let a = past_refuse {T = Bytes} {E = ℕ} (not (is_some (realm.look client.components))) 6 (need (service_of body) 7 by_name) r (ap (λ o. not (is_some o)) one.known.found) x in
-          let b = past_need {T = Bytes} {E = ℕ} (service_of body) 7 by_name (principal_name 2 exchange.service) r refl a in
-          let c = past_need {T = Bytes} {E = ℕ} (realm.look exchange.service) 7 to_service honest.account r honest.found b in
-          let asked = subst (λ (own : AskedOptions). (asking own).gives r) (asked_so exchange.options realm.settings.policy may_forward may_renew) c in
+          let a = past_need {T = Bytes} {E = ℕ} (realm.look client.components) 6 by_client one.known.account r one.known.found x in
+          let b = past_need {T = Bytes} {E = ℕ} (service_of body) 7 (by_name one.known.account) (principal_name 2 exchange.service) r refl a in
+          let c = past_need {T = Bytes} {E = ℕ} (realm.look exchange.service) 7 (allowed_by (principal_name 2 exchange.service) one.known.account) honest.account r honest.found b in
+          let i = past_then {A = Unit {0}} {T = Bytes} (further_allowed exchange.realm_at one.known.account honest.account) (λ _. to_service honest.account) tt r allowed_further c in
+          let asked = subst (λ (own : AskedOptions). (asking own).gives r) (asked_so exchange.options realm.settings.policy may_forward may_renew) i in
           let o = past_then {A = Unit {0}} {T = Bytes} by_options behind_options tt r allows asked in
-          let d = past_found {A = Span} {T = Bytes} (IsNextSpan renews realm exchange old) (lasting_by renews) in_span r (found_next renews refl) o in
+          let d = past_found {A = Span} {T = Bytes} (IsNextSpan renews realm exchange old) own_lasting in_span r (λ s y. found_next renews refl s (lasting_as s y)) o in
           let e = past_need {T = Bytes} {E = ℕ} (table.first_granted without (pos (cipher_number client.suite) ∷ [])) 14 (in_suite d.0) client.suite r (own_first without client.suite client_granted) d.2 in
           let none = none_either ((asked_options realm.settings.policy body.kdc_options.0).forwards || (asked_options realm.settings.policy body.kdc_options.0).proxies) in
           let own = subst (λ addresses. IsTicketReply (addressed d.0 e.0 addresses) (tgs_reply_key client.suite session) honest.account exchange.realm_words e.2.0) none e.2.1 in

@@ -79,6 +79,7 @@ module _ (client : ClientRecord) (means : MeansRecord) (realm : RealmRecord) (ro
         enough = met.enough;
         granting = met.granting;
         keyed = met.keyed;
+        unlimited = met.unlimited;
         honest = record {
           named = met.honest.named;
           client = met.honest.client;

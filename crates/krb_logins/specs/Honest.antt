@@ -9,6 +9,7 @@ use Rattle.krb_messages.specs.Names.{components}
 use Rattle.krb_realm_accounts.specs.Account.{AccountRecord}
 use Rattle.krb_realm_accounts.specs.Names.{AreComponents, IsRealmName}
 use Rattle.krb_service.specs.Pair.{PairRecord, is_among}
+use Rattle.krb_kdc_exchanges.specs.Before.{IsFree}
 use Rattle.krb_kdc_exchanges.specs.Times.{end_of, start_of}
 use Rattle.krb_messages.specs.TicketGranting.{krbtgt_of}
 use Rattle.krb_client.specs.Client.{ClientRecord}
@@ -43,6 +44,12 @@ pub record AreNamed (asking : ClientRecord) (realm : RealmRecord) (asked_for : S
   pub client : asking.realm ≡ realm.name
   pub service : asked_for.entry.realm ≡ realm.name
   pub asked : login.service ≡ asked_for.entry.components
+
+-- nobody sets an attribute for the accounts that a login involves
+pub record AreUnlimited (client : ClientRecord) (service : ServiceRecord) (realm : RealmRecord) : Type 0 where
+  pub client_free : (account : AccountRecord) → realm.look client.components ≡ Some account → IsFree account
+  pub service_free : (account : AccountRecord) → realm.look service.entry.components ≡ Some account → IsFree account
+  pub granting_free : (account : AccountRecord) → realm.look (krbtgt_of realm.name) ≡ Some account → IsFree account
 
 -- the realm knows the client by its suite
 pub record IsClientKnown (client : ClientRecord) (realm : RealmRecord) : Type 0 where

@@ -29,17 +29,18 @@ use Rattle.krb_service.specs.RememberingService.{Outcome, remembering}
 use Rattle.krb_service.specs.Service.{ServiceRecord}
 use Rattle.krb_logins.specs.Authenticated.{IsAgreedKey, IsAuthenticated, first_asked}
 use Rattle.krb_logins.specs.Held.{IsFirstSpan, IsFurtherSpan, IsHeld, first_grant, further_grant}
-use Rattle.krb_logins.specs.Honest.{AreEnough, AreParties, IsGranting, IsHonestLogin, clock_of, login_pair}
+use Rattle.krb_logins.specs.Honest.{AreEnough, AreParties, AreUnlimited, IsGranting, IsHonestLogin, clock_of, login_pair}
 use Rattle.krb_logins.specs.Parties.{LoginRecord, RealmRecord, RememberedRecord, call_at}
 use Rattle.krb_logins.specs.Steps.{reply_bytes}
 
 -- an honest login of parties as they are made, to a realm that has its ticket-granting service, whose accounts have keys, and which
--- judges PA-PK-AS-REQ by these rows; the client authenticates itself by its means
+-- judges PA-PK-AS-REQ by these rows; nobody sets an attribute for the accounts, and the client authenticates itself by its means
 pub record IsMet (client : ClientRecord) (means : MeansRecord) (realm : RealmRecord) (rows : PkinitRows) (service : ServiceRecord) (before : RememberedRecord) (login : LoginRecord) : Type 0 where
   pub parties : AreParties client service
   pub enough : AreEnough login
   pub granting : IsGranting realm
   pub keyed : AreKeyed realm.look
+  pub unlimited : AreUnlimited client service realm
   pub honest : IsHonestLogin client realm service before login
   pub authenticated : IsAuthenticated client means realm rows honest.client.account login
 

@@ -18,6 +18,7 @@ use Rattle.krb_tickets.specs.Grant.{GrantRecord}
 use Rattle.krb_tickets.specs.Parts.{flags_of, session_key_of, ticket_part}
 use Rattle.krb_tickets.specs.declared.flag_bits.TheConstants.{FORWARDABLE, RENEWABLE}
 use Rattle.krb_tickets.specs.declared.grant.TicketFlags.{TicketFlags}
+use Rattle.krb_kdc_exchanges.specs.Before.{IsFree}
 use Rattle.krb_kdc_exchanges.specs.Calls.{AreKeyed}
 use Rattle.krb_kdc_exchanges.specs.Grants.{initial_flags}
 use Rattle.krb_kdc_exchanges.specs.Options.{asked_options, grants_renewable}
@@ -67,12 +68,14 @@ pub record Holds (client : ClientRecord) (realm : RealmRecord) (service : List B
 abbrev pub HoldsGranting : ClientRecord → RealmRecord → CredentialRecord → Type 0
 HoldsGranting client realm = Holds client realm (krbtgt_of client.realm)
 
--- client and realm are of one name, the realm knows the client by its suite, and its accounts have keys
+-- Client and realm are of one name, and the realm knows the client by its suite. Nobody sets an attribute for the client's account. The
+-- realm's accounts have keys.
 pub record AreOfOneRealm (client : ClientRecord) (realm : RealmRecord) : Type 0 where
   pub realm_name : IsRealmName client.realm
   pub name : AreComponents client.components
   pub same : client.realm ≡ realm.name
   pub known : IsClientKnown client realm
+  pub free : IsFree known.account
   pub keyed : AreKeyed realm.look
 
 -- the end of a further ticket, which isn't renewed: no later than that of the presented one (RFC 4120, section 3.3.3)
@@ -97,13 +100,14 @@ pub record IsForwardable (client : ClientRecord) (realm : RealmRecord) (exchange
   pub service : exchange.service ≡ krbtgt_of client.realm
   pub flag : bit_of granting.flags FORWARDABLE ≡ true
 
--- An honest TGS exchange: the realm has an account of the service, and the client's time is near the realm's. The presented ticket is valid
--- now, and allows what is asked for. The next ticket ends after its start; of a renewed one this follows.
+-- An honest TGS exchange: the realm has an account of the service, for which nobody sets an attribute. The client's time is near the realm's.
+-- The presented ticket is valid now, and allows what is asked for. The next ticket ends after its start; of a renewed one this follows.
 pub record IsTgsHonest (client : ClientRecord) (realm : RealmRecord) (exchange : TgsRecord) (granting : CredentialRecord) : Type 0 where
   pub enough : AreEnoughForReply exchange.realm_words
   pub named : AreComponents exchange.service
   pub account : AccountRecord
   pub found : realm.look exchange.service ≡ Some account
+  pub free : IsFree account
   pub near : is_far (realm_skew realm) exchange.realm_at exchange.client_at ≡ false
   pub valid : IsTicketInTime (seconds_of granting.starttime) (seconds_of granting.endtime) (realm_skew realm) exchange.realm_at
   pub lasts : exchange.options.renews ≡ false → start_of exchange.realm_at < end_by realm exchange granting
@@ -124,11 +128,12 @@ pub record IsApHonest (asking : ClientRecord) (realm : RealmRecord) (asked_for :
 abbrev pub as_body_asked : ClientRecord → TicketOptions → LoginRecord → KdcReqBody
 as_body_asked client options login = as_body_with client (client.suite ∷ []) options (krbtgt_of client.realm) login.till login.words_as
 
--- An honest AS exchange: the realm has its ticket-granting service, and authenticates the client. The first ticket ends after its start, and
--- is asked for as no renewed or forwarded one.
+-- An honest AS exchange: the realm has its ticket-granting service, and authenticates the client. Nobody sets an attribute for that
+-- service's account. The first ticket ends after its start, and is asked for as no renewed or forwarded one.
 pub record IsAsHonest (client : ClientRecord) (options : TicketOptions) (means : MeansRecord) (realm : RealmRecord) (rows : PkinitRows) (account : AccountRecord) (login : LoginRecord) : Type 0 where
   pub enough : AreEnoughForReply login.realm_words_as
   pub granting : IsGranting realm
+  pub granting_free : IsFree granting.account
   pub not_renewed : options.renews ≡ false
   pub not_forwarded : options.forwards ≡ false
   pub lasts : start_of login.realm_as < first_end realm login

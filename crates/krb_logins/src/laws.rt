@@ -15,7 +15,7 @@ ghost use Rattle.krb_client.specs.declared.options.TicketOptions.{TicketOptions}
 ghost use Rattle.krb_service.specs.Service.{IsService, ServiceRecord};
 ghost use Rattle.krb_logins.specs.Authenticated.{IsAuthenticatedFor};
 ghost use Rattle.krb_logins.specs.Choices.{AsksService, choice_by};
-ghost use Rattle.krb_logins.specs.Honest.{AreEnough, AreParties, Ends, IsGranting, IsHonestByPassword, IsOneKey, IsTimely, WantsMemory, realm_skew};
+ghost use Rattle.krb_logins.specs.Honest.{AreEnough, AreParties, AreUnlimited, Ends, IsGranting, IsHonestByPassword, IsOneKey, IsTimely, WantsMemory, realm_skew};
 ghost use Rattle.krb_logins.specs.Laws.{IsClientAdmitted, IsFirstGranted, IsFirstTaken, IsFurtherGranted, IsFurtherTaken, IsMet};
 ghost use Rattle.krb_logins.specs.LoginRun.{AsExchange, AsExchangeWith, Exchanges, Login, LoginRun, TgsExchangeWith};
 ghost use Rattle.krb_logins.specs.Near.{AreNear, IsLasting, common_skew};
@@ -74,7 +74,7 @@ pub fn one_key<M: Means, P: Pkinit>(means: &M, pkinit: &P)
 /// Every honest login by password ends so, at a realm that judges PA-PK-AS-REQ by any rows.
 pub fn one_key_by_password<P: Pkinit>(pkinit: &P)
     ensures { (client : ClientRecord) (key : List ℕ) (realm : RealmRecord) (service : ServiceRecord) (before : RememberedRecord) (login : LoginRecord) (result : Result Login LoginRefusal) (after : RememberedRecord)
-        → AreParties client service → AreEnough login → IsGranting realm → AreKeyed realm.look → IsHonestByPassword client key realm service before login
+        → AreParties client service → AreEnough login → IsGranting realm → AreKeyed realm.look → AreUnlimited client service realm → IsHonestByPassword client key realm service before login
         → LoginRun client (by_key client.suite key) realm (P.rows pkinit.now) service login before result after → IsOneKey client result }
 {}
 

@@ -1,5 +1,5 @@
 -- A realm: its name, its limits, what it trusts clients' certificates by, and a finite map from component lists to accounts.
-use Rattle.std.specs.Prelude.{◌≡◌, nat_eq, Bool, true, not, ◌==◌, List, length, None, Result, Ok, Err, if◌then◌else◌}
+use Rattle.std.specs.Prelude.{◌≡◌, nat_eq, Bool, true, not, ◌==◌, List, length, None, Some, Result, Ok, Err, if◌then◌else◌}
 use Rattle.std.specs.Cmp.Lexicographic.{pointwise}
 use Rattle.std.specs.FinMap as finite
 use Rattle.krb_messages.specs.RandomBytes.{Random}
@@ -7,13 +7,14 @@ use Rattle.krb_time.specs.Units.{Micros}
 use Rattle.picky_asn1.specs.Bytes.{Bytes}
 use Rattle.krb_crypto.specs.declared.suite.CipherSuite.{CipherSuite}
 use Rattle.krb_crypto.specs.Suites.{cipher_key_size}
-use Rattle.krb_realm_accounts.specs.Account.{AccountRecord}
-use Rattle.krb_realm_accounts.specs.Accounts.{AccountMap, look_in}
+use Rattle.krb_realm_accounts.specs.Account.{AccountRecord, one_key}
+use Rattle.krb_realm_accounts.specs.Accounts.{AccountMap, Look, look_in}
 use Rattle.krb_realm_accounts.specs.Accounts as map
 use Rattle.krb_realm_accounts.specs.Names.{is_realm_name, are_components}
 use Rattle.krb_realm_accounts.specs.Settings.{SettingsRecord}
 use Rattle.krb_kdc_exchanges.specs.Call.{CallRecord}
-use Rattle.krb_kdc_exchanges.specs.Calls.{AreKeyed}
+use Rattle.krb_kdc_exchanges.specs.Before.{IsFree}
+use Rattle.krb_kdc_exchanges.specs.Calls.{IsKeyed}
 use Rattle.krb_messages.specs.TicketGranting.{krbtgt_of}
 use Rattle.pkinit_validation.specs.Trust.{TrustRecord}
 use Rattle.krb_memory_realms.specs.Settings.{SettingsState}
@@ -39,16 +40,24 @@ call_to realm moment words = record {
 
 -- an account by a first key
 abbrev pub first_key : CipherSuite → Bytes → AccountRecord
-first_key suite key = record { suite = suite; key = key; kvno = 1; salt = None }
+first_key suite key = one_key suite key 1 None
 
 -- the accounts have that of the ticket-granting service of the realm of this name
 abbrev pub has_krbtgt : Bytes → AccountMap → Bool
 has_krbtgt name accounts = finite.contains_key accounts (krbtgt_of name)
 
--- what holds of every realm: it has its ticket-granting service's account, and each account's key is one of its suite
+-- what holds of each account of a realm: its key is one of its suite, and nobody sets an attribute for it
+pub record IsOwn (account : AccountRecord) : Type 0 where
+  pub keyed : IsKeyed account
+  pub free : IsFree account
+
+abbrev pub AreOwn : Look → Type 0
+AreOwn look = (name : List Bytes) (account : AccountRecord) → look name ≡ Some account → IsOwn account
+
+-- what holds of every realm: it has its ticket-granting service's account, and each account is as those of realms are
 pub record IsRealm (name : Bytes) (accounts : AccountMap) : Type 0 where
   pub granting : has_krbtgt name accounts ≡ true
-  pub keyed : AreKeyed (look_in accounts)
+  pub own : AreOwn (look_in accounts)
 
 -- whether a realm of this name is made with this key, in the order of refusals
 abbrev pub making : Bytes → CipherSuite → Bytes → Result (Unit {0}) RealmRefusal

@@ -7,11 +7,12 @@ ghost use Rattle.krb_realm_accounts.specs.Names.{parts};
 ghost use Rattle.krb_realm_accounts.specs.Refusal.{IsMemoryAside};
 ghost use Rattle.decision_tables.specs.Some.{HasSome};
 ghost use Rattle.krb_kdc_exchanges.specs.Call.{call_of};
-ghost use Rattle.krb_kdc_exchanges.specs.Calls.{AreKeyed, IsKeyed};
+ghost use Rattle.krb_kdc_exchanges.specs.Before.{AreFree, IsFree};
+ghost use Rattle.krb_kdc_exchanges.specs.Calls.{AreKeyed};
 ghost use Rattle.krb_kdc_exchanges.specs.Replies.{Replies};
 ghost use Rattle.pkinit_validation.specs.PkinitRows.{pkinit_rows};
 ghost use Rattle.pkinit_validation.specs.Trust.{trust_of};
-ghost use Rattle.krb_memory_realms.specs.Realm.{call_to, is_krbtgt};
+ghost use Rattle.krb_memory_realms.specs.Realm.{IsOwn, call_to, is_krbtgt};
 
 use crate::laws::has_reply;
 use crate::settings::Settings;
@@ -95,7 +96,7 @@ impl Realm {
             return Err(RealmRefusal::BadName);
         }
         let granting = Account::by_key(suite, key)?;
-        is_keyed(&granting);
+        is_own(&granting);
         let own = realm_name_of(alloc, name)?;
         let service = krbtgt_of(alloc, &own)?;
         let mut accounts = Accounts::new(alloc);
@@ -121,6 +122,14 @@ impl Realm {
     /// What every realm has: accounts whose keys are keys of their suites. It does nothing when it runs.
     pub fn are_keyed(&self)
         ensures { AreKeyed (look_in self.now.accounts) }
+    {
+        // The clause is of the fields: the proof sees them where one is read.
+        let _settings = &self.settings;
+    }
+
+    /// What every realm has: accounts for which nobody sets an attribute. It does nothing when it runs.
+    pub fn are_free(&self)
+        ensures { AreFree (look_in self.now.accounts) }
     {
         // The clause is of the fields: the proof sees them where one is read.
         let _settings = &self.settings;
@@ -160,7 +169,7 @@ impl Realm {
             return Err(RealmRefusal::BadName);
         }
         let account = Account::by_key(suite, key)?;
-        is_keyed(&account);
+        is_own(&account);
         self.accounts.insert_components(alloc, name, account)?;
         Ok(())
     }
@@ -198,7 +207,7 @@ impl Realm {
         let Ok(account) = Account::by_password(alloc, suite, password, salt) else {
             return Err(RealmRefusal::Memory);
         };
-        is_keyed(&account);
+        is_own(&account);
         self.accounts.insert_components(alloc, name, account)?;
         Ok(())
     }
@@ -302,9 +311,11 @@ impl Realm {
     }
 }
 
-// The key of an account has the length of its suite. It does nothing when it runs: its contract states this of a caller's account.
-fn is_keyed(account: &Account)
-    ensures { IsKeyed account.now }
+// The key of an account has the length of its suite. It does nothing when it runs: its contract states this of a caller's account, for
+// which nobody sets an attribute.
+fn is_own(account: &Account)
+    requires { IsFree account.now }
+    ensures { IsOwn account.now }
 {
     is_slice(account.key().as_bytes());
 }

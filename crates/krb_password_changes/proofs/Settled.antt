@@ -2,9 +2,14 @@
 use Rattle.std.proofs.Common.{◌≡◌, ◌↔◌, ◌⊎◌, ℕ, Bool, true, false, is_none, List, Option, None, Some, Result, Ok, Err, ap, refl, sym, subst, inl, inr}
 use Rattle.decision_tables.specs.One.{same_parts}
 use Rattle.decision_tables.specs.Tables.{and_then, done, refuse}
+use Rattle.krb_account_texts.specs.Edits.{HasChanged, guards_password, rekeyed}
 use Rattle.krb_account_texts.specs.declared.edits.EditRefusal.{EditRefusal}
 use Rattle.krb_account_texts.specs.declared.edits.EditRefusal.TheVariants.{Unknown, NumberSpent}
 use Rattle.krb_account_texts.specs.declared.line.Line.{Line}
+use Rattle.krb_crypto.specs.Keys.{KeyRecord}
+use Rattle.krb_crypto.specs.Sealing.{password_key_of}
+use Rattle.krb_crypto.specs.declared.suite.CipherSuite.{CipherSuite}
+use Rattle.krb_messages.specs.Names.{components}
 use Rattle.krb_service.specs.Admission.{AdmissionRecord}
 use Rattle.krb_password_changes.specs.declared.messages.result_code.ResultCode.{ResultCode}
 use Rattle.krb_password_changes.specs.declared.messages.result_code.ResultCode.TheVariants.{HardError}
@@ -13,7 +18,7 @@ use Rattle.picky_asn1.specs.Bytes.{Bytes}
 use Rattle.krb_password_changes.specs.declared.judge.Granted.{Granted}
 use Rattle.krb_password_changes.specs.ChangeTable.{RulesRecord, allowed_target, granted_change, judged_change, judged_message, judged_private, numbered, opened, opened_private, read_private, settable, strong}
 use Rattle.krb_password_changes.specs.Changes.{TargetRecord}
-use Rattle.krb_password_changes.specs.NewPasswords.{Changes, HasPassword}
+use Rattle.krb_password_changes.specs.NewPasswords.{Changes, HasPassword, salt_of}
 use Rattle.krb_password_changes.specs.Refusals.{IsJudged}
 use Rattle.krb_password_changes.specs.declared.refusal.ChangeRefusal.{ChangeRefusal}
 use Rattle.krb_password_changes.specs.declared.refusal.ChangeRefusal.TheVariants.{Refused, Memory}
@@ -48,6 +53,16 @@ unsettled None spent granted refusal unknown numbered why = refl
 unsettled (Some place) true granted refusal unknown numbered why = refl
 unsettled (Some place) false granted refusal unknown numbered (inl why) = let none : Some place ≡ None = unknown.0 (ap err_of why) in absurd (cc (none))
 unsettled (Some place) false granted refusal unknown numbered (inr why) = let spent : false ≡ true = numbered.0 (ap err_of why) in absurd (cc (spent))
+
+-- an account that got the key of the password, under this name and salt, has the password
+pub has-password : (suite : CipherSuite) (granted : Granted) (old new : List Line) (name : List Bytes) (key : KeyRecord) (salt : Bytes)
+    → name ≡ components granted.name → salt ≡ salt_of granted → key ≡ record { suite = suite; bytes = password_key_of suite granted.password salt }
+    → HasChanged name (rekeyed (guards_password name old) key.suite key.bytes (Some salt)) old new → HasPassword suite granted old new
+has-password suite granted old new name key salt named salted keyed changed =
+    let guards : Bool = guards_password (components granted.name) old in
+    let by_name = subst (λ (own : List Bytes). HasChanged own (rekeyed (guards_password own old) key.suite key.bytes (Some salt)) old new) named changed in
+    let by_key = subst (λ (own : KeyRecord). HasChanged (components granted.name) (rekeyed guards own.suite own.bytes (Some salt)) old new) keyed by_name in
+    subst (λ (own : Bytes). HasChanged (components granted.name) (rekeyed guards suite (password_key_of suite granted.password own) (Some own)) old new) salted by_key
 
 -- a change whose target may not be set is refused
 pub target_refused : (rules : RulesRecord) (admission : AdmissionRecord) (change : ChangePasswdData) (code : ResultCode)

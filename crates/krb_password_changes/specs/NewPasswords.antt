@@ -1,6 +1,6 @@
 -- What a granted change does to the lines of a realm's accounts.
-use Rattle.std.specs.Prelude.{◌≡◌, List, Some, Result, Ok, Err}
-use Rattle.krb_account_texts.specs.Edits.{HasChanged, rekeyed}
+use Rattle.std.specs.Prelude.{◌≡◌, Bool, List, Some, Result, Ok, Err}
+use Rattle.krb_account_texts.specs.Edits.{HasChanged, guards_password, rekeyed}
 use Rattle.krb_account_texts.specs.declared.line.Line.{Line}
 use Rattle.krb_crypto.specs.Sealing.{password_key_of}
 use Rattle.krb_crypto.specs.declared.suite.CipherSuite.{CipherSuite}
@@ -19,15 +19,15 @@ abbrev pub salt_of : Granted → Bytes
 salt_of granted = password_salt granted.realm (components granted.name)
 
 -- The line with the next key: that of the password, with the salt of realm and name (RFC 4120, section 4), and the next kvno. The name
--- stays, and whether the account is disabled.
-abbrev pub with_password : CipherSuite → Granted → Line → Line
-with_password suite granted =
-    rekeyed suite (password_key_of suite granted.password (salt_of granted)) (Some (salt_of granted))
+-- stays, and whether the account is disabled. Where the realm guards passwords, there is no ticket for the account as a service.
+abbrev pub with_password : Bool → CipherSuite → Granted → Line → Line
+with_password guards suite granted =
+    rekeyed guards suite (password_key_of suite granted.password (salt_of granted)) (Some (salt_of granted))
 
 -- The new lines are the old ones but for the line of the target's account, which has the next key, of the password. Test: `version 1: own
 -- password`, `administrator sets another's` of `password_changes.txt`.
 abbrev pub HasPassword : CipherSuite → Granted → List Line → List Line → Type 0
-HasPassword suite granted old new = HasChanged (components granted.name) (with_password suite granted) old new
+HasPassword suite granted old new = HasChanged (components granted.name) (with_password (guards_password (components granted.name) old) suite granted) old new
 
 -- What an admitted request does to the lines: it is granted, and the target's account has the password; or it is refused, or memory ran
 -- out, and they stay.

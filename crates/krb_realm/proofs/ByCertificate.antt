@@ -27,7 +27,7 @@ use Rattle.krb_client.specs.declared.refusal.TakeRefusal.{TakeRefusal}
 use Rattle.krb_client.specs.declared.refusal.TakeRefusal.TheVariants.{NotTrusted}
 use Rattle.krb_service.specs.Service.{ServiceRecord}
 use Rattle.krb_logins.specs.Authenticated.{IsAgreedKey, IsAuthenticated, as_body_of_login, first_asked}
-use Rattle.krb_logins.specs.Honest.{AreEnough, AreParties, IsGranting}
+use Rattle.krb_logins.specs.Honest.{AreEnough, AreParties, AreUnlimited, IsGranting}
 use Rattle.krb_logins.specs.Laws.{IsMet}
 use Rattle.krb_logins.specs.Parties.{LoginRecord, RealmRecord, RememberedRecord, call_at}
 use Rattle.krb_logins.specs.Steps.{AreDecided}
@@ -165,14 +165,15 @@ module _ (client : ClientRecord) (certificate : Bytes) (anchor : AnchorRecord) (
 
 -- an honest login by certificate is met by the means of that certificate, at a realm that judges by its own
 pub met_by_certificate : (client : ClientRecord) (certificate : Bytes) (anchor : AnchorRecord) (client_keys : KeysRecord) (realm : RealmRecord) (trust : TrustRecord) (realm_keys : KeysRecord)
-    (service : ServiceRecord) (before : RememberedRecord) (login : LoginRecord) → AreParties client service → AreEnough login → IsGranting realm → AreKeyed realm.look
+    (service : ServiceRecord) (before : RememberedRecord) (login : LoginRecord) → AreParties client service → AreEnough login → IsGranting realm → AreKeyed realm.look → AreUnlimited client service realm
     → IsHonestByCertificate client certificate anchor client_keys realm trust realm_keys service before login
     → IsMet client (by_certificate certificate anchor client_keys) realm (pkinit_rows trust realm_keys) service before login
-met_by_certificate client certificate anchor client_keys realm trust realm_keys service before login parties enough granted keyed by = record {
+met_by_certificate client certificate anchor client_keys realm trust realm_keys service before login parties enough granted keyed unlimited by = record {
   parties = parties;
   enough = enough;
   granting = granted;
   keyed = keyed;
+  unlimited = unlimited;
   honest = by.honest;
   authenticated = authenticated_by_certificate client certificate anchor client_keys realm trust realm_keys service before login by;
 }

@@ -5,7 +5,7 @@ ghost use Rattle.krb_kdc_exchanges.specs.PkinitCalls.{AgreedRecord, PkinitCallRe
 ghost use Rattle.krb_kdc_exchanges.specs.Calls.{AreKeyed};
 ghost use Rattle.krb_client.specs.Client.{ClientRecord};
 ghost use Rattle.krb_service.specs.Service.{ServiceRecord};
-ghost use Rattle.krb_logins.specs.Honest.{AreEnough, AreParties, IsGranting, IsOneKey};
+ghost use Rattle.krb_logins.specs.Honest.{AreEnough, AreParties, AreUnlimited, IsGranting, IsOneKey};
 ghost use Rattle.krb_logins.specs.LoginRun.{Login, LoginRun};
 ghost use Rattle.krb_logins.specs.Parties.{LoginRecord, RealmRecord, RememberedRecord};
 ghost use Rattle.krb_logins.specs.declared.refusal.LoginRefusal.{LoginRefusal};
@@ -51,7 +51,7 @@ pub fn agreement_taken()
 pub fn one_key_by_certificate()
     ensures { (client : ClientRecord) (certificate : List ℕ) (anchor : AnchorRecord) (client_keys : KeysRecord) (realm : RealmRecord) (trust : TrustRecord) (realm_keys : KeysRecord)
         (service : ServiceRecord) (before : RememberedRecord) (login : LoginRecord) (result : Result Login LoginRefusal) (after : RememberedRecord)
-        → AreParties client service → AreEnough login → IsGranting realm → AreKeyed realm.look
+        → AreParties client service → AreEnough login → IsGranting realm → AreKeyed realm.look → AreUnlimited client service realm
         → IsHonestByCertificate client certificate anchor client_keys realm trust realm_keys service before login
         → LoginRun client (by_certificate certificate anchor client_keys) realm (pkinit_rows trust realm_keys) service login before result after → IsOneKey client result }
 {}

@@ -144,6 +144,7 @@ fn keyed_ends_with_one_key(
     client.is_well_formed();
     realm.is_granting();
     realm.are_keyed();
+    realm.are_free();
     service.is_well_formed();
     one_key_by_password(&realm.pkinit(&NoKeys));
 }
@@ -169,6 +170,7 @@ fn certified_ends_with_one_key<C: KeyFunctions, R: KeyFunctions>(
     client.is_well_formed();
     realm.is_granting();
     realm.are_keyed();
+    realm.are_free();
     service.is_well_formed();
     one_key_by_certificate();
 }

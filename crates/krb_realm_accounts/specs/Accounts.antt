@@ -8,7 +8,7 @@ use Rattle.std.specs.FinMap.{FinMap, get, contains_key, IsAntisymmetric, nat_cmp
 use Rattle.picky_asn1.specs.Bytes.{Bytes}
 use Rattle.krb_crypto.specs.declared.suite.CipherSuite.{CipherSuite}
 use Rattle.krb_crypto.specs.Suites.{cipher_key_size}
-use Rattle.krb_realm_accounts.specs.Account.{AccountRecord}
+use Rattle.krb_realm_accounts.specs.Account.{AccountRecord, kept, rekeyed_attributes}
 use Rattle.krb_realm_accounts.specs.declared.refusal.RealmRefusal.{RealmRefusal}
 use Rattle.krb_realm_accounts.specs.declared.refusal.RealmRefusal.TheVariants.{Exists, Unknown, BadKeyLength, NumberSpent}
 
@@ -35,11 +35,22 @@ inserting accounts name = if contains_key accounts name then Err Exists else Ok 
 abbrev pub removing : AccountMap → List Bytes → Result (Unit {0}) RealmRefusal
 removing accounts name = if contains_key accounts name then Ok tt else Err Unknown
 
--- the account with its next key, which has the next kvno and no salt; a kvno is below 2^32
+-- the account with its next key, which has the next kvno and no salt, and none of the keys before
+abbrev pub next_key : CipherSuite → Bytes → AccountRecord → AccountRecord
+next_key suite key account = record { suite = suite; key = key; kvno = account.kvno + 1; salt = None; former = []; attributes = rekeyed_attributes account.attributes }
+
+-- the same, or the refusal where there is no next kvno; a kvno is below 2^32
 abbrev pub with_key : CipherSuite → Bytes → AccountRecord → Result AccountRecord RealmRefusal
-with_key suite key account =
-    if account.kvno == 4294967295 then Err NumberSpent
-    else Ok (record { suite = suite; key = key; kvno = account.kvno + 1; salt = None })
+with_key suite key account = if account.kvno == 4294967295 then Err NumberSpent else Ok (next_key suite key account)
+
+-- the account with its next key and this salt, which keeps the keys before
+abbrev pub keeping : CipherSuite → Bytes → Option Bytes → AccountRecord → Result AccountRecord RealmRefusal
+keeping suite key salt account =
+    if account.kvno == 4294967295 then Err NumberSpent else Ok (record (next_key suite key account) { salt = salt; former = kept account })
+
+-- the account without the keys before
+abbrev pub purged : AccountRecord → AccountRecord
+purged account = record account { former = [] }
 
 -- what a name's account becomes by a key, in the order of refusals
 abbrev pub rekeyed : CipherSuite → Bytes → Option AccountRecord → Result AccountRecord RealmRefusal

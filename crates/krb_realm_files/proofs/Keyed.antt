@@ -1,5 +1,6 @@
 -- An account of a file of bytes has a key of its suite.
 use Rattle.std.proofs.Common.{◌≡◌, ℕ, ◌+◌, ◌≤◌, ◌==◌, ◌||◌, nat_lt, not, List, length, take, drop, slice_index, Option, None, Some, Result, Ok, Err, Bool, true, false, if◌then◌else◌, refl, subst, arith}
+use Rattle.std.specs.Option.{option_map}
 use Rattle.std.proofs.lemmas.Bool.{ltb-false, or_parts}
 use Rattle.std.proofs.lemmas.List.{length-take-le}
 use Rattle.std.proofs.lemmas.Grind.{common_steps}
@@ -17,7 +18,9 @@ use Rattle.krb_realm_accounts.specs.Account.{AccountRecord}
 use Rattle.krb_realm_accounts.specs.Packed.{fit, packed}
 use Rattle.krb_kdc_exchanges.specs.Calls.{AreKeyed, IsKeyed}
 use Rattle.krb_realm_files.specs.declared.format.TheConstants.{RECORD_ROOM}
-use Rattle.krb_realm_files.specs.AccountRecords.{account_behind, account_in, of_suite, salt_in, suite_numbered, with_salt}
+use Rattle.krb_realm_files.specs.AccountRecords.{account_behind, account_in, of_suite, with_further}
+use Rattle.krb_realm_files.specs.FurtherFields.{Further, further_in}
+use Rattle.krb_realm_files.specs.SuiteNumbers.{suite_numbered}
 use Rattle.krb_realm_files.specs.Files.{account_found, account_or_none, account_said, look_of, or_none}
 
 -- a part of bytes
@@ -50,11 +53,11 @@ unfolding looked_up
 data_bytes room bytes key octets are e = of_found room bytes octets (find_in bytes key) are e
 
 -- an account that was read
-keyed_with : (suite : CipherSuite) (kvno : ℕ) (key : List ℕ) (salt : Option (Option (List ℕ))) (account : AccountRecord) → length key ≡ cipher_key_size suite → IsBytes key
-    → with_salt suite kvno key salt ≡ Some account → IsKeyed account
+keyed_with : (suite : CipherSuite) (kvno : ℕ) (key : List ℕ) (further : Option Further) (account : AccountRecord) → length key ≡ cipher_key_size suite → IsBytes key
+    → option_map (with_further suite kvno key) further ≡ Some account → IsKeyed account
 keyed_with suite kvno key None account sized bytes e = absurd (cc (e))
-keyed_with suite kvno key (Some salt) account sized bytes e =
-    let same : ◌≡◌ {A = AccountRecord} (record { suite = suite; key = key; kvno = kvno; salt = salt }) account = cc (e) in
+keyed_with suite kvno key (Some further) account sized bytes e =
+    let same : ◌≡◌ {A = AccountRecord} (with_further suite kvno key further) account = cc (e) in
     subst IsKeyed same (record { sized = sized; bytes = bytes })
 
 keyed_behind : (suite : CipherSuite) (octets : List ℕ) (account : AccountRecord) → IsBytes octets → account_behind suite octets ≡ Some account → IsKeyed account
@@ -62,13 +65,13 @@ unfolding account_behind
 keyed_behind suite octets account are e = by ((le32_at 2 octets == 0) || nat_lt (length octets) (7 + cipher_key_size suite)) refl e
   where
     by : (refused : Bool) → (le32_at 2 octets == 0) || nat_lt (length octets) (7 + cipher_key_size suite) ≡ refused
-        → ◌≡◌ {A = Option AccountRecord} (if refused then None else with_salt suite (le32_at 2 octets) (take (cipher_key_size suite) (drop 7 octets)) (salt_in (slice_index octets 6) (drop (7 + cipher_key_size suite) octets))) (Some account)
+        → ◌≡◌ {A = Option AccountRecord} (if refused then None else option_map (with_further suite (le32_at 2 octets) (take (cipher_key_size suite) (drop 7 octets))) (further_in (le32_at 2 octets) (slice_index octets 6) (drop (7 + cipher_key_size suite) octets))) (Some account)
         → IsKeyed account
     by true r f = absurd (cc (f))
     by false r f =
         let within : 7 + cipher_key_size suite ≤ length octets = ltb-false (length octets) (7 + cipher_key_size suite) (or_parts (le32_at 2 octets == 0) (nat_lt (length octets) (7 + cipher_key_size suite)) r).1 in
         let enough : cipher_key_size suite ≤ length (drop 7 octets) = grind (arith, common_steps, within) in
-        keyed_with suite (le32_at 2 octets) (take (cipher_key_size suite) (drop 7 octets)) (salt_in (slice_index octets 6) (drop (7 + cipher_key_size suite) octets)) account
+        keyed_with suite (le32_at 2 octets) (take (cipher_key_size suite) (drop 7 octets)) (further_in (le32_at 2 octets) (slice_index octets 6) (drop (7 + cipher_key_size suite) octets)) account
         (length-take-le (cipher_key_size suite) (drop 7 octets) enough)
         (IsBytes-take (cipher_key_size suite) (drop 7 octets) (IsBytes-drop 7 octets are)) f
 

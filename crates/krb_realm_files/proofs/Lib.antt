@@ -1,4 +1,6 @@
 mod Numbered
+mod FurtherAgain
+mod OlderKeys
 mod Again
 mod RealmAgain
 mod Said

@@ -3,7 +3,7 @@ use Rattle.std.proofs.Common.{◌≡◌, ◌≢◌, ℕ, None, Some, refl, sym, 
 use Rattle.krb_crypto.specs.declared.suite.CipherSuite.{CipherSuite}
 use Rattle.krb_crypto.specs.declared.suite.CipherSuite.TheVariants.{Aes128CtsHmacSha196, Aes256CtsHmacSha196, Des3CbcSha1Kd, Aes128CtsHmacSha256128, Aes256CtsHmacSha384192}
 use Rattle.krb_crypto.specs.Suites.{cipher_number}
-use Rattle.krb_realm_files.specs.AccountRecords.{suite_numbered}
+use Rattle.krb_realm_files.specs.SuiteNumbers.{suite_numbered}
 
 pub of_number : (suite : CipherSuite) → suite_numbered (cipher_number suite) ≡ Some suite
 of_number Aes128CtsHmacSha196 = refl

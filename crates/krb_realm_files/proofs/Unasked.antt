@@ -5,6 +5,7 @@ use Rattle.std.specs.Option.{is_some}
 use Rattle.krb_messages.specs.Messages.{IsAsReq, sole_as_req}
 use Rattle.picky_asn1.specs.Bytes.{Bytes}
 use Rattle.krb_realm_accounts.specs.Account.{AccountRecord}
+use Rattle.krb_kdc_exchanges.specs.Allowed.{first_allowed, lifetime_of}
 use Rattle.krb_kdc_exchanges.specs.AsTable.{as_table, authenticated_by, possible}
 use Rattle.krb_kdc_exchanges.specs.Grants.{granted}
 use Rattle.krb_constants.specs.declared.error_codes.TheConstants.{KDC_ERR_C_PRINCIPAL_UNKNOWN, KDC_ERR_S_PRINCIPAL_UNKNOWN}
@@ -34,9 +35,10 @@ table_by call rows of_client of_service request first =
     need of_client KDC_ERR_C_PRINCIPAL_UNKNOWN (λ client.
     need (service_of (body_of request)) KDC_ERR_S_PRINCIPAL_UNKNOWN (λ service_name.
     need of_service KDC_ERR_S_PRINCIPAL_UNKNOWN (λ service.
-    and_then (possible call client.suite (body_of request)) (λ span.
+    and_then (first_allowed call.moment (record { client_name = client_name; client = client; service_name = service_name; service = service })) (λ _.
+    and_then (possible call (lifetime_of call.settings.lifetime client service) client.suite (body_of request)) (λ span.
     and_then (authenticated_by call rows client (components client_name) request first) (λ under.
-    granted call (record { client_name = client_name; client = client; service_name = service_name; service = service }) under span (body_of request))))))))
+    granted call (record { client_name = client_name; client = client; service_name = service_name; service = service }) under span (body_of request)))))))))
 
 module _ (call : CallRecord) (rows other : PkinitRows) (of_client of_service : Option AccountRecord) (request : KdcReq) (reply : Option Bytes) where
   by_first : (first : Option Bytes) → first ≡ None → (e_data : Code → Option Bytes) → (answered call e_data request (table_by call rows of_client of_service request first)).gives reply

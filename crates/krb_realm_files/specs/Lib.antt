@@ -1,4 +1,6 @@
 pub mod Reading
+pub mod SuiteNumbers
+pub mod FurtherFields
 pub mod AccountRecords
 pub mod RealmRecords
 pub mod Files

@@ -1,15 +1,19 @@
 //! The record of an account.
 ghost use Rattle.std.specs.Prelude.{◌≡◌, ◌≤◌, IfOk, length};
+ghost use Rattle.std.specs.Option.{option_map};
 ghost use Rattle.krb_realm_files.specs.declared.format.TheConstants.{ACCOUNT_HEAD};
-ghost use Rattle.krb_realm_files.specs.AccountRecords.{account_behind, account_bytes, account_in, suite_numbered};
+ghost use Rattle.krb_realm_files.specs.AccountRecords.{account_behind, account_bytes, account_in, with_further};
+ghost use Rattle.krb_realm_files.specs.FurtherFields.{further_in};
 ghost use Rattle.krb_realm_files.specs.Reading.{IsReadAs};
 
 use crate::fault::RecordFault;
-use crate::format::{ACCOUNT_HEAD, RECORD_VERSION};
+use crate::format::{ACCOUNT_HEAD, ATTRIBUTES, OLDER_KEYS, RECORD_VERSION};
+use crate::further_fields::{
+    attributes_front, former_front, marks_of, put_further, salt_in, suite_numbered,
+};
 use byte_streams::u32_le;
 use krb_crypto::{CipherSuite, Key};
 use krb_realm_accounts::Account;
-use picky_asn1::wrapper::OctetStringAsn1;
 use std::alloc::{AllocError, Global};
 
 /// Returns the account whose record the octets are. It refuses as `Damaged` if they are no account's record, and as `Memory` if memory
@@ -41,15 +45,30 @@ fn read_behind(alloc: Global, suite: CipherSuite, bytes: &[u8]) -> Result<Accoun
     let Ok(key) = Key::new(suite, &bytes[ACCOUNT_HEAD..ACCOUNT_HEAD + size]) else {
         return Err(RecordFault::Damaged);
     };
-    let rest = &bytes[ACCOUNT_HEAD + size..];
-    match bytes[6] {
-        0 if rest.is_empty() => Ok(Account::new(key, kvno, None)),
-        1 => {
-            let salt = Vec::from_slice(alloc, rest)?;
-            Ok(Account::new(key, kvno, Some(OctetStringAsn1::from(salt))))
-        }
-        _ => Err(RecordFault::Damaged),
+    read_further(alloc, key, kvno, bytes[6], &bytes[ACCOUNT_HEAD + size..])
+}
+
+// Returns the account of this key, with what stands behind it, by the marks.
+#[tactic(auto, unfolding(crate::specs::FurtherFields::further_in))]
+fn read_further(
+    alloc: Global,
+    key: Key,
+    kvno: u32,
+    marks: u8,
+    octets: &[u8],
+) -> Result<Account, RecordFault>
+    requires { 1 ≤ kvno }
+    ensures { IsReadAs (option_map (with_further key.suite kvno key.bytes) (further_in kvno marks octets.now)) result }
+{
+    if 8 <= marks {
+        return Err(RecordFault::Damaged);
     }
+    let Some(front) = attributes_front(marks / ATTRIBUTES % 2 == 1, octets) else {
+        return Err(RecordFault::Damaged);
+    };
+    let former = former_front(alloc, marks / OLDER_KEYS % 2 == 1, kvno, front.rest)?;
+    let salt = salt_in(alloc, marks % 2 == 1, former.rest)?;
+    Ok(Account::of_keys(key, kvno, salt, former.keys, front.attributes))
 }
 
 /// Returns the record of an account. It fails only if memory runs out.
@@ -60,26 +79,8 @@ pub fn account_bytes(alloc: Global, account: &Account) -> Result<Vec<u8>, AllocE
     let number = u8::from(account.suite());
     let mut bytes = vec![in alloc; RECORD_VERSION, number]?;
     bytes.extend_from_slice(&account.kvno().to_le_bytes())?;
-    match account.salt() {
-        None => {
-            bytes.push(0)?;
-            bytes.extend_from_slice(account.key().as_bytes())?;
-        }
-        Some(salt) => {
-            bytes.push(1)?;
-            bytes.extend_from_slice(account.key().as_bytes())?;
-            bytes.extend_from_slice(salt.as_bytes())?;
-        }
-    }
+    bytes.push(marks_of(account))?;
+    bytes.extend_from_slice(account.key().as_bytes())?;
+    put_further(&mut bytes, account)?;
     Ok(bytes)
-}
-
-// Returns the suite that has this number, if one has it.
-fn suite_numbered(number: u8) -> Option<CipherSuite>
-    ensures { result ≡ suite_numbered number }
-{
-    let Ok(suite) = CipherSuite::try_from(usize::from(number)) else {
-        return None;
-    };
-    Some(suite)
 }

@@ -3,8 +3,23 @@
 /// The version of both records, of an account and of the realm: their octet 0.
 pub const RECORD_VERSION: u8 = 1;
 
-/// How many octets an account's record has before the key: the version, the suite's number, the kvno, and whether there is a salt.
+/// How many octets an account's record has before the key: the version, the suite's number, the kvno, and the marks.
 pub const ACCOUNT_HEAD: usize = 7;
+
+/// The mark of a salt.
+pub const SALT: u8 = 1;
+
+/// The mark of older keys.
+pub const OLDER_KEYS: u8 = 2;
+
+/// The mark of attributes.
+pub const ATTRIBUTES: u8 = 4;
+
+/// How many octets the attributes have: the end of the account, the greatest lifetime, and their own marks.
+pub const ATTRIBUTES_LEN: usize = 13;
+
+/// How many octets an older key has in front: the suite's number and the kvno.
+pub const OLDER_HEAD: usize = 5;
 
 /// How many octets the realm's record has in front: the version, the clock skew, the greatest lifetime, how many octets logins by
 /// certificate are answered by, and the policy.

@@ -1,7 +1,7 @@
 //! What holds of every record and of every file. Each is a function that does nothing when it runs: its contract is the law.
 ghost use Rattle.std.specs.Prelude.{◌≡◌, ◌≤◌, ◌<◌, ◌^◌, ℕ, List, None, Some, IsTrue, false, length};
 ghost use Rattle.block_ciphers.specs.Bytes.{IsBytes};
-ghost use Rattle.krb_realm_accounts.specs.Account.{AccountRecord};
+ghost use Rattle.krb_realm_accounts.specs.Account.{AccountRecord, IsWhole};
 ghost use Rattle.krb_realm_accounts.specs.Settings.{AreSettings};
 ghost use Rattle.krb_realm_accounts.specs.declared.policy.Policy.{Policy};
 ghost use Rattle.krb_crypto.specs.Suites.{cipher_key_size};
@@ -12,10 +12,9 @@ ghost use Rattle.krb_realm_files.specs.Means.{general_policy};
 ghost use Rattle.krb_realm_files.specs.RealmRecords.{is_recorded, realm_bytes, realm_in};
 ghost use Rattle.krb_realm_files.specs.declared.realm_parameters.RealmParameters.{RealmParameters};
 
-/// The record of an account is read as that account, if its key has its suite's length and its kvno is at least 1 and below 2^32.
+/// The record of an account is read as that account, with its older keys and its attributes (`IsWhole`).
 pub fn account_as_written()
-    ensures { (account : AccountRecord) → length account.key ≡ cipher_key_size account.suite → 1 ≤ account.kvno → account.kvno < 2 ^ 32
-        → account_in (account_bytes account) ≡ Some account }
+    ensures { (account : AccountRecord) → IsWhole account → account_in (account_bytes account) ≡ Some account }
 {}
 
 /// The record of a realm is read as that realm, if its name is one of a realm, its settings are in their ranges, and logins by

@@ -30,6 +30,7 @@ mod answer;
 mod fault;
 mod file_pkinit;
 mod format;
+mod further_fields;
 pub mod laws;
 mod means;
 mod opens;

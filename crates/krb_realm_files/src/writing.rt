@@ -131,8 +131,7 @@ fn account_reads_again(account: &Account)
     ensures { account_in (account_bytes account.now) ≡ Some account.now }
 {
     account_as_written();
-    account.key().is_well_formed();
-    let _kvno = account.kvno();
+    account.is_whole();
 }
 
 /// Returns the record of the realm. It comes after those of the accounts, since its key does. It refuses as `Unsound` only if the

@@ -9,7 +9,7 @@ use Rattle.picky_asn1.specs.Bytes.{Bytes}
 use Rattle.krb_crypto.specs.declared.suite.CipherSuite.{CipherSuite}
 use Rattle.krb_crypto.specs.declared.suite.CipherSuite.TheVariants.{Aes256CtsHmacSha196}
 use Rattle.krb_crypto.specs.Suites.{cipher_number}
-use Rattle.krb_realm_accounts.specs.Account.{AccountRecord}
+use Rattle.krb_realm_accounts.specs.Account.{AccountRecord, one_key}
 use Rattle.krb_constants.specs.declared.padata_types.TheConstants.{PA_ENC_TIMESTAMP, PA_ETYPE_INFO2, PA_PK_AS_REQ}
 use Rattle.krb_messages.specs.declared.data_types.etype_info2.EtypeInfo2Entry.{EtypeInfo2Entry}
 use Rattle.krb_messages.specs.declared.data_types.pa_data.PaData.{PaData}
@@ -63,7 +63,7 @@ method_data_bytes by_certificate account = der (method_data_tree (method_data by
 
 -- worked: the METHOD-DATA for an AES-256 key with the salt Ra
 salted : (key : Bytes) (kvno : ℕ)
-    → method_data_bytes false (record { suite = Aes256CtsHmacSha196; key = key; kvno = kvno; salt = Some (codes "Ra") })
+    → method_data_bytes false (one_key Aes256CtsHmacSha196 key kvno (Some (codes "Ra")))
     ≡ 0x30 ∷ 0x25 ∷ 0x30 ∷ 0x18 ∷ 0xA1 ∷ 0x03 ∷ 0x02 ∷ 0x01 ∷ 0x13 ∷ 0xA2 ∷ 0x11 ∷ 0x04 ∷ 0x0F ∷ 0x30 ∷ 0x0D ∷ 0x30
     ∷ 0x0B ∷ 0xA0 ∷ 0x03 ∷ 0x02 ∷ 0x01 ∷ 0x12 ∷ 0xA1 ∷ 0x04 ∷ 0x1B ∷ 0x02 ∷ 0x52 ∷ 0x61 ∷ 0x30 ∷ 0x09 ∷ 0xA1 ∷ 0x03
     ∷ 0x02 ∷ 0x01 ∷ 0x02 ∷ 0xA2 ∷ 0x02 ∷ 0x04 ∷ 0x00 ∷ []
@@ -72,7 +72,7 @@ salted key kvno = refl
 
 -- worked: the same, where the realm accepts certificates
 salted_anchored : (key : Bytes) (kvno : ℕ)
-    → method_data_bytes true (record { suite = Aes256CtsHmacSha196; key = key; kvno = kvno; salt = Some (codes "Ra") })
+    → method_data_bytes true (one_key Aes256CtsHmacSha196 key kvno (Some (codes "Ra")))
     ≡ 0x30 ∷ 0x30 ∷ 0x30 ∷ 0x18 ∷ 0xA1 ∷ 0x03 ∷ 0x02 ∷ 0x01 ∷ 0x13 ∷ 0xA2 ∷ 0x11 ∷ 0x04 ∷ 0x0F ∷ 0x30 ∷ 0x0D ∷ 0x30
     ∷ 0x0B ∷ 0xA0 ∷ 0x03 ∷ 0x02 ∷ 0x01 ∷ 0x12 ∷ 0xA1 ∷ 0x04 ∷ 0x1B ∷ 0x02 ∷ 0x52 ∷ 0x61 ∷ 0x30 ∷ 0x09 ∷ 0xA1 ∷ 0x03
     ∷ 0x02 ∷ 0x01 ∷ 0x02 ∷ 0xA2 ∷ 0x02 ∷ 0x04 ∷ 0x00 ∷ 0x30 ∷ 0x09 ∷ 0xA1 ∷ 0x03 ∷ 0x02 ∷ 0x01 ∷ 0x10 ∷ 0xA2 ∷ 0x02 ∷ 0x04 ∷ 0x00 ∷ []

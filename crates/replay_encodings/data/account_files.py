@@ -98,9 +98,37 @@ def account_of(record):
         raise Damaged
     suite, kvno, flag = record[1], int.from_bytes(record[2:6], "little"), record[6]
     size = 7 + KEY_SIZES[suite]
-    if kvno == 0 or len(record) < size or flag > 1 or (flag == 0 and len(record) > size):
+    if kvno == 0 or len(record) < size or flag > 7:
         raise Damaged
-    return suite, kvno, record[7:size], record[size:] if flag else None
+    rest = behind_older(flag & 2, kvno, behind_attributes(flag & 4, record[size:]))
+    if not flag & 1 and rest:
+        raise Damaged
+    assert flag < 2  # no row has a record with older keys or attributes
+    return suite, kvno, record[7:size], rest if flag else None
+
+
+def behind_attributes(are_there, octets):
+    """The octets behind the attributes, which are twelve octets and one below 8."""
+    if are_there and (len(octets) < 13 or octets[12] > 7):
+        raise Damaged
+    return octets[13:] if are_there else octets
+
+
+def behind_older(are_there, below, octets):
+    """The octets behind the older keys: one to fifteen, whose kvnos count from 1 and fall."""
+    if not are_there:
+        return octets
+    if not octets or not 1 <= octets[0] <= 15:
+        raise Damaged
+    count, octets = octets[0], octets[1:]
+    for _ in range(count):
+        if len(octets) < 5 or octets[0] not in KEY_SIZES:
+            raise Damaged
+        size, kvno = 5 + KEY_SIZES[octets[0]], int.from_bytes(octets[1:5], "little")
+        if not 1 <= kvno < below or len(octets) < size:
+            raise Damaged
+        below, octets = kvno, octets[size:]
+    return octets
 
 
 def realm_of(record):

@@ -72,7 +72,7 @@ for _ in range(60):
 
 KEY = "00" * 16
 ONE = "a\taes128-cts-hmac-sha1-96\t1\t-\t" + KEY + "\n"
-FIELDS = "expected name, suite, kvno, salt and key, or realm, name, skew and lifetime, and perhaps words and octets or -, with a tab between each two"
+FIELDS = "expected name, suite, kvno, salt and key, and perhaps last second, lifetime, marks and older keys, or realm, name, skew and lifetime, and perhaps words and octets or -, with a tab between each two"
 NAME = "name: expected 1 to 16 components of 1 to 255 ASCII characters, with / between each two"
 SUITE = "suite: expected one of " + ", ".join(SUITES)
 KVNO = "kvno: expected a whole number from 1 to 4294967295"
@@ -85,7 +85,7 @@ SECONDS = "realm: expected a skew from 0 to 86400 seconds and a lifetime from 1 
 NAME_OR_SUITE = SUITE
 NO_REALM = "expected the line of the realm before all accounts: realm, name, skew and lifetime"
 PKINIT = "pkinit: expected pairs of hexadecimal digits, as certify writes them"
-WORD = "words: expected some of limits-des3, forwardable, proxiable, renewable=SECONDS, pkinit-agility, pkinit-sha1 and pkinit, in this order, with a comma between each two"
+WORD = "words: expected some of limits-des3, forwardable, proxiable, renewable=SECONDS, guards-passwords, pkinit-agility, pkinit-sha1 and pkinit, in this order, with a comma between each two"
 RENEWABLE = "renewable: expected a whole number of seconds from 1 to 31536000"
 NO_PKINIT = "expected - behind words without pkinit"
 ORDER = "name: expected accounts in the order of their names, each name once"
@@ -108,7 +108,7 @@ for text, fault in [
     (HEAD + ONE.replace("\t1\t", "\t1 \t"), "2: " + KVNO), (HEAD + ONE.replace("\t1\t", "\t99999999999999999999999\t"), "2: " + KVNO),
     (HEAD + ONE.replace("\t-\t", "\t0\t"), "2: " + SALT), (HEAD + ONE.replace("\t-\t", "\t--\t"), "2: " + SALT),
     (HEAD + ONE.replace("\t-\t", "\t80\t"), "2: " + SALT_OCTET), (HEAD + ONE.replace("\t-\t", "\t7f00ff\t"), "2: " + SALT_OCTET),
-    (HEAD + "#disabled\t\n", "2: " + DISABLED), (HEAD + "#disabled\t" + ONE.replace("\n", "\t\n"), "2: " + DISABLED),
+    (HEAD + "#disabled\t\n", "2: " + DISABLED), (HEAD + "#disabled\t" + ONE.replace("\n", "\t\n"), "2: " + FIELDS),
     (HEAD + "#disabled\trealm\tB\t300\t36000\n", "2: " + DISABLED), (HEAD + "#disabled\t" + ONE.replace("\t1\t", "\t0\t"), "2: " + KVNO),
     (HEAD + "#disabled\t" + ONE + ONE, "3: " + ORDER), (HEAD + ONE.replace("a\t", "b\t", 1) + "#disabled\t" + ONE, "3: " + ORDER),
     ("#disabled\t" + ONE + HEAD, "1: " + NO_REALM),
@@ -121,7 +121,7 @@ for text, fault in [
     (HEAD.replace("300", "x"), "1: " + SECONDS),
     (HEAD.replace("\n", "\tpkinit\t\n"), "1: " + PKINIT), (HEAD.replace("\n", "\tpkinit\t0\n"), "1: " + PKINIT), (HEAD.replace("\n", "\tpkinit\t0g\n"), "1: " + PKINIT),
     (HEAD.replace("\n", "\tpkinit\t-\n"), "1: " + PKINIT), (HEAD.replace("\n", "\tpkinit\n"), "1: " + NAME_OR_SUITE), (HEAD.replace("\n", "\tPKINIT\t00\n"), "1: " + WORD),
-    (HEAD.replace("\n", "\tpkinit\t00\t\n"), "1: " + FIELDS), (HEAD.replace("realm", "Realm").replace("\n", "\tpkinit\t00\n"), "1: " + FIELDS),
+    (HEAD.replace("\n", "\tpkinit\t00\t\n"), "1: " + NAME_OR_SUITE), (HEAD.replace("realm", "Realm").replace("\n", "\tpkinit\t00\n"), "1: " + FIELDS),
     (HEAD.replace("300", "86401").replace("\n", "\tpkinit\t0g\n"), "1: " + SECONDS),
 ]:
     row("read", fold(text), fault)
@@ -179,12 +179,13 @@ row("certify", fold(BOTH + ONE), "-", fold(LIMITED + ONE))
 row("remove", fold(LIMITED + ONE), "a", fold(LIMITED))
 for further, fault in [
     ("limits-des3\t00", NO_PKINIT), ("limits-des3\t", NO_PKINIT), ("limits-des3", NAME_OR_SUITE), ("limits-des3,pkinit\t-", PKINIT), ("pkinit,limits-des3\t00", WORD),
-    ("limits-des3\t-\tpkinit\t00", FIELDS), ("limits\t-", WORD),
+    ("limits-des3\t-\tpkinit\t00", NAME_OR_SUITE), ("limits\t-", WORD), ("guards-passwords,guards-passwords\t-", WORD), ("guards-passwords,renewable=1\t-", WORD),
+    ("guards-passwords,limits-des3\t-", WORD), ("pkinit,guards-passwords\t00", WORD), ("guards-passwords\t00", NO_PKINIT), ("guards-passwords,pkinit\t-", PKINIT),
 ]:
     row("read", fold(HEAD.replace("\n", f"\t{further}\n")), "1: " + fault)
 
-# The words of a policy. What is read of them is judged here word by word.
-WORDS = ["limits-des3", "forwardable", "proxiable", "renewable", "pkinit-agility", "pkinit-sha1", "pkinit"]
+# The words of a realm's line. What is read of them is judged here word by word.
+WORDS = ["limits-des3", "forwardable", "proxiable", "renewable", "guards-passwords", "pkinit-agility", "pkinit-sha1", "pkinit"]
 
 def fault_of(words, pkinit):
     last = -1
@@ -205,7 +206,7 @@ def realm(words, pkinit):
     return HEAD.replace("\n", f"\t{','.join(further)}\t{pkinit.hex() if pkinit else '-'}\n") if further else HEAD
 
 OF_PKINIT = [(False, False), (True, False), (True, True), (False, True)]
-for chosen in [(*front, *behind) for at, front in enumerate(itertools.product([False, True], repeat=4)) for behind in (OF_PKINIT[0], OF_PKINIT[1 + at % 3])]:
+for chosen in [(*front, *behind) for at, front in enumerate(itertools.product([False, True], repeat=5)) for behind in (OF_PKINIT[0], OF_PKINIT[1 + at % 3])]:
     life = random.choice([1, 2, 604800, 31535999, 31536000, random.randrange(1, 31536001)])
     words = [f"{word}={life}" if word == "renewable" else word for word, is_set in zip(WORDS, chosen) if is_set]
     without, certified = realm(words, b""), realm(words, b"\x00\xff")
@@ -215,15 +216,96 @@ for chosen in [(*front, *behind) for at, front in enumerate(itertools.product([F
     row("certify", fold(certified + ONE), "-", fold(without + ONE))
     row("disable", fold(without + ONE), "a", fold(without + "#disabled\t" + ONE))
 
-ODD = ["limits-des3", "forwardable", "proxiable", "pkinit", "renewable=604800", "pkinit-agility", "pkinit-sha1", "renewable=1", "renewable=31536000", "renewable", "renewable=", "renewable=0",
+ODD = ["limits-des3", "forwardable", "proxiable", "pkinit", "renewable=604800", "guards-passwords", "pkinit-agility", "pkinit-sha1", "renewable=1", "renewable=31536000", "renewable", "renewable=", "renewable=0",
        "renewable=31536001", "renewable=-1", "renewable=1d", "renewable= 1", "renewable=4294967296", "renewable=99999999999999999999", "renewable==1", "forwardable=",
-       "Forwardable", "proxiable ", " forwardable", "forwardables", "forward", "renewable=1=", "pkinit-sha256", "pkinit-agility=", "-", ""]
-tried = [*ODD, *(random.choice(ODD) + "," + random.choice(ODD) for _ in range(30)), *(",".join(random.sample(ODD[:7], random.randrange(2, 8))) for _ in range(30))]
+       "Forwardable", "proxiable ", " forwardable", "forwardables", "forward", "renewable=1=", "guards-password", "guards-passwords=", "guards_passwords", "pkinit-sha256", "pkinit-agility=", "-", ""]
+tried = [*ODD, *(random.choice(ODD) + "," + random.choice(ODD) for _ in range(30)), *(",".join(random.sample(ODD[:8], random.randrange(2, 9))) for _ in range(40))]
 for words in sorted(set(tried)):
     for pkinit in "-", random.choice(["00", "0", "", "--", "0F"]):
         text = HEAD.replace("\n", f"\t{words}\t{pkinit}\n") + ONE
         fault = fault_of(words, pkinit)
         row("read", fold(text), "1: " + fault if fault else fold(text.replace("\t0F\n", "\t0f\n")))
+
+# Attributes and older keys: the last second, counted from 1970, the greatest lifetime, the marks, and each older key.
+ENDS = "last second: expected seconds since 1970, from 0 to 4294967295, or - for none"
+LASTS = "lifetime: expected seconds, from 0 to 4294967295, or - for none"
+MARK_WORDS = "marks: expected off, must-change and no-service in this order, with a comma between each two, or - for none"
+OLDER = "older key: expected suite, kvno and key with a colon between each two, kvnos that fall, and 15 older keys at most"
+BEFORE = "aes256-cts-hmac-sha1-96:{}:" + "22" * 32
+
+def further(account, *fields):
+    return account.replace("\n", "".join("\t" + field for field in fields) + "\n")
+
+def older(*kvnos):
+    return [BEFORE.format(kvno) for kvno in kvnos]
+
+TWENTIETH = ONE.replace("\t1\t", "\t20\t")
+for fields in [
+    ("1893456000", "-", "-"), ("-", "36000", "-"), ("4294967295", "4294967295", "off,must-change,no-service"), ("1", "1", "off"),
+    ("-", "-", "must-change"), ("-", "-", "off,must-change"), ("-", "-", "no-service"), ("-", "-", "off,no-service"), ("-", "-", "must-change,no-service"),
+    ("-", "-", "-", *older(19)), ("-", "-", "-", *older(19, 3, 1)), ("2", "3", "off", *older(*range(15, 0, -1))),
+]:
+    for text in HEAD + further(TWENTIETH, *fields), HEAD + "#disabled\t" + further(TWENTIETH, *fields):
+        row("read", fold(text), fold(text))
+row("read", fold(HEAD + further(ONE, "-", "-", "-")), fold(HEAD + ONE))
+row("read", fold(HEAD + further(ONE, "0", "0", "-")), fold(HEAD + ONE))
+for fields, fault in [
+    (("-", "-"), FIELDS), (("x", "-", "-"), ENDS), (("4294967296", "-", "-"), ENDS), (("", "-", "-"), ENDS), (("-", "x", "-"), LASTS),
+    (("-", "4294967296", "-"), LASTS), (("-", "-", "OFF"), MARK_WORDS), (("-", "-", "must-change,off"), MARK_WORDS), (("-", "-", "off,"), MARK_WORDS), (("-", "-", ""), MARK_WORDS),
+    (("-", "-", "-", ""), OLDER), (("-", "-", "-", *older(20)), OLDER), (("-", "-", "-", *older(3, 3)), OLDER), (("-", "-", "-", *older(3, 4)), OLDER),
+    (("-", "-", "-", *older(*range(16, 0, -1))), OLDER), (("-", "-", "-", *older(0)), KVNO), (("-", "-", "-", BEFORE.format(1)[2:]), SUITE),
+    (("-", "-", "-", BEFORE.format(1)[2:] + "22"), SUITE), (("-", "-", "-", BEFORE.format(1) + "22"), KEYS), (("-", "-", "-", BEFORE.format(1) + ":"), OLDER),
+]:
+    row("read", fold(HEAD + further(TWENTIETH, *fields)), "2: " + fault)
+
+# Changes of keys that keep the keys before, or don't.
+SUITE_OF_ONE, NEXT = "aes128-cts-hmac-sha1-96", "11" * 16
+OWN = SUITE_OF_ONE + ":20:" + KEY
+NEXT_ONE = ONE.replace("\t1\t", "\t21\t").replace(KEY, NEXT)
+row("keep", fold(HEAD + TWENTIETH), "a", SUITE_OF_ONE, NEXT, fold(HEAD + further(NEXT_ONE, "-", "-", "-", OWN)))
+row("keep", fold(HEAD + further(TWENTIETH, "-", "-", "-", *older(*range(15, 0, -1)))), "a", SUITE_OF_ONE, NEXT,
+    fold(HEAD + further(NEXT_ONE, "-", "-", "-", OWN, *older(*range(15, 1, -1)))))
+row("keep", fold(HEAD + further(TWENTIETH, "5", "6", "off,must-change")), "a", SUITE_OF_ONE, NEXT, fold(HEAD + further(NEXT_ONE, "5", "6", "off", OWN)))
+row("keep", fold(HEAD + TWENTIETH), "b", SUITE_OF_ONE, NEXT, "no such account")
+row("keep", fold(HEAD + ONE.replace("\t1\t", "\t4294967295\t")), "a", SUITE_OF_ONE, NEXT, "kvno 4294967295 is the greatest: expected a new name")
+row("key", fold(HEAD + further(TWENTIETH, "5", "6", "must-change,no-service", *older(19, 1))), "a", SUITE_OF_ONE, NEXT, fold(HEAD + further(NEXT_ONE, "5", "6", "no-service")))
+row("purge", fold(HEAD + further(TWENTIETH, "-", "-", "-", *older(19, 1))), "a", fold(HEAD + TWENTIETH))
+row("purge", fold(HEAD + further(TWENTIETH, "5", "-", "-", *older(19, 1))), "a", fold(HEAD + further(TWENTIETH, "5", "-", "-")))
+row("purge", fold(HEAD + TWENTIETH), "b", "no such account")
+row("off", fold(HEAD + further(TWENTIETH, "5", "6", "no-service", *older(19))), "a", fold(HEAD + further(TWENTIETH, "-", "-", "off", *older(19))))
+row("off", fold(HEAD + ONE + KRBTGT), "krbtgt/EXAMPLE.COM", KEPT)
+row("off", fold(HEAD + ONE), "b", "no such account")
+
+# Keys of passwords, which have a salt. Where the realm guards passwords, an account that is given such a key is no service, but for that of
+# its own ticket-granting service.
+def given(words, salt, kvno, fields, former, name="a"):
+    """The line of an account that was given a key, which had these fields before, and keeps these keys."""
+    ends, lifetime, marks, *_ = fields or ("-", "-", "-")
+    is_guarded = "guards-passwords" in words.split(",") and salt != "-" and name != "krbtgt/EXAMPLE.COM"
+    kept = [mark for mark in ("off", "no-service") if mark in marks.split(",") or mark == "no-service" and is_guarded]
+    behind = ends, lifetime, ",".join(kept) or "-", *former
+    own = f"{name}\t{SUITE_OF_ONE}\t{kvno}\t{salt}\t{NEXT}\n"
+    return own if set(behind) == {"-"} else further(own, *behind)
+
+for words in "", "limits-des3,pkinit", "guards-passwords", "limits-des3,forwardable,proxiable,renewable=1,guards-passwords,pkinit":
+    head = HEAD.replace("\n", f"\t{words}\t{'00ff' if 'pkinit' in words else '-'}\n") if words else HEAD
+    for salt in "-", "73616c74", "":
+        mark, last = ("", []) if salt == "-" else ("-salted", [salt])
+        row("add" + mark, fold(head), "a", SUITE_OF_ONE, NEXT, *last, fold(head + given(words, salt, 1, (), ())))
+        for fields in (), ("5", "6", "off,must-change"), ("-", "-", "no-service"), ("-", "-", "must-change,no-service", *older(19, 1)), ("-", "7", "-", *older(*range(15, 0, -1))):
+            for disabled in ["", "#disabled\t"][:1 + (fields == ())]:
+                before = head + disabled + (further(TWENTIETH, *fields) if fields else TWENTIETH)
+                row("key" + mark, fold(before), "a", SUITE_OF_ONE, NEXT, *last, fold(head + disabled + given(words, salt, 21, fields, ())))
+                row("keep" + mark, fold(before), "a", SUITE_OF_ONE, NEXT, *last,
+                    fold(head + disabled + given(words, salt, 21, fields, [OWN, *fields[3:]][:15])))
+GUARDED = HEAD.replace("\n", "\tguards-passwords\t-\n")
+row("off", fold(GUARDED + further(ONE, "-", "-", "no-service")), "a", fold(GUARDED + further(ONE, "-", "-", "off")))
+for name in "krbtgt/EXAMPLE.COM", "krbtgt/EXAMPLE.ORG", "krbtgt/EXAMPLE.COM/a", "krbtgt", "EXAMPLE.COM/krbtgt":
+    before = TWENTIETH.replace("a\t", name + "\t", 1)
+    last = name, SUITE_OF_ONE, NEXT, "7f"
+    row("add-salted", fold(GUARDED), *last, fold(GUARDED + given("guards-passwords", "7f", 1, (), (), name)))
+    row("key-salted", fold(GUARDED + before), *last, fold(GUARDED + given("guards-passwords", "7f", 21, (), (), name)))
+    row("keep-salted", fold(GUARDED + before), *last, fold(GUARDED + given("guards-passwords", "7f", 21, (), [OWN], name)))
 
 with open("account_texts.txt", "w", encoding="utf-8") as out:
     out.write("".join(row + "\n" for row in rows))

@@ -19,7 +19,8 @@ sys.dont_write_bytecode = True
 import databases
 import file_realms
 import forms
-from file_realms import ACCOUNTS, KEY_SIZES, content, des3_derived, des3_key_of, exchanges, fields, key_of, opened, row, write
+from file_realms import (
+    ACCOUNTS, KEY_SIZES, content, des3_derived, des3_key_of, exchanges, fields, key_for, key_of, opened, read_account, row, write)
 from forms import BITS, ENCRYPTED, INTEGER, NAME, OCTETS, STRING, TICKET, TIME, TYPED, application, explicit, list_of, sequence
 from listings import der
 from tokens import SUITES
@@ -169,11 +170,18 @@ def refuse(case, code):
 
 
 class Account:
-    """Suite, kvno, key and salt of a record."""
+    """What a record has: keys, the newest first, attributes, and a salt."""
     def __init__(self, record):
-        size = KEY_SIZES[record[1]]
-        self.suite, self.kvno, self.key = record[1], int.from_bytes(record[2:6], "little"), record[7 : 7 + size]
-        self.salt = record[7 + size :] if record[6] else None
+        self.keys, (self.end, self.lifetime, marks), self.salt = read_account(record)
+        self.suite, self.kvno, self.key = self.keys[0]
+        self.is_off, self.must_change, self.is_no_service = (marks >> place & 1 == 1 for place in range(3))
+
+    def has_ended(self):
+        return 0 < self.end < NOW
+
+
+def greatest_lifetime(*accounts):
+    return min([LIFETIME] + [account.lifetime for account in accounts if account.lifetime])
 
 
 class Realm:
@@ -228,8 +236,9 @@ class Realm:
         refuse(1 not in body or self.account(body[1]) is None, 6)
         refuse(3 not in body or self.account(body[3]) is None, 7)
         client, service = self.account(body[1]), self.account(body[3])
+        self.allow_first(client, service, parts(body[3]) == [b"kadmin", b"changepw"])
         refuse(4 in body and seconds(body[4]) > NOW + SKEW, 10)
-        end = min(asked_end(body[5]), NOW + LIFETIME, LAST)
+        end = min(asked_end(body[5]), NOW + greatest_lifetime(client, service), LAST)
         refuse(end <= NOW, 11)
         refuse(client.suite not in body[8], 14)
         refuse(self.padata(request, 16) is not None, 16)
@@ -239,6 +248,16 @@ class Realm:
         ticket = dict(
             flags=given, client=body[1], service=body[3], auth=NOW, start=NOW, end=end, till=till, nonce=body[7], suite=client.suite)
         return self.granted(0x6B, 11, 0x79, ticket, service, (client.suite, client.key, client.kvno, AS_REPLY))
+
+    @staticmethod
+    def allow_first(client, service, is_changepw):
+        """What the attributes of both accounts allow (sections 3.1.3 and 7.5.9)."""
+        refuse(client.has_ended(), 1)
+        refuse(service.has_ended(), 2)
+        refuse(client.must_change and not is_changepw, 23)
+        refuse(client.is_off, 18)
+        refuse(service.is_off, 7)
+        refuse(service.is_no_service, 12)
 
     @staticmethod
     def timestamp(client, value):
@@ -286,8 +305,9 @@ class Realm:
         refuse(self.account(part[3]) is None, 6)
         refuse(3 not in body or self.account(body[3]) is None, 7)
         service = self.account(body[3])
+        self.allow_further(self.account(part[3]), service)
         self.options(options, part, parts(body[3]) == [b"krbtgt", b"R"])
-        start, end, till = self.times(options, body, part)
+        start, end, till = self.times(options, body, part, service)
         refuse(end <= start, 11)
         own = next((etype for etype in body[8] if etype in KEY_SIZES), None)
         refuse(own is None, 14)
@@ -302,13 +322,23 @@ class Realm:
         return self.granted(0x6D, 13, 0x7A, ticket, service, under)
 
     @staticmethod
+    def allow_further(client, service):
+        """What the attributes of both accounts allow (sections 3.3.3 and 7.5.9)."""
+        refuse(client.has_ended(), 1)
+        refuse(client.is_off, 18)
+        refuse(service.is_off, 7)
+        refuse(service.is_no_service, 12)
+        refuse(service.has_ended(), 2)
+
+    @staticmethod
     def presented(ap_req, granting):
         ticket = ap_req[3]
         refuse(ap_req[0] != 5 or ticket[0] != 5, 39)
         refuse(ap_req[1] != 14, 40)
         refuse(ticket[1] != b"R" or parts(ticket[2]) != [b"krbtgt", b"R"], 35)
-        refuse(ticket[3].get(1, granting.kvno) != granting.kvno, 44)
-        part = opened(granting.suite, granting.key, TICKET_PART, ticket[3], forms.TICKET_PART)
+        suite, kvno, key = key_for(ticket[3], granting.keys)
+        refuse(ticket[3].get(1, kvno) != kvno, 44)
+        part = opened(suite, key, TICKET_PART, ticket[3], forms.TICKET_PART)
         refuse(part is None, 31)
         refuse(part[2] != b"R", 68)
         refuse(seconds(part.get(6, part[5])) > NOW + SKEW or has(part[0], INVALID), 33)
@@ -347,11 +377,11 @@ class Realm:
         refuse(proxies and is_krbtgt, 13)
 
     @staticmethod
-    def times(options, body, part):
+    def times(options, body, part, service):
         """Starttime, endtime, and the renew-till of a renewal (section 3.3.3)."""
         old_end = seconds(part[7])
         if not has(options, RENEW):
-            return NOW, min(asked_end(body[5]), NOW + LIFETIME, old_end), None
+            return NOW, min(asked_end(body[5]), NOW + greatest_lifetime(service), old_end), None
         life = max(0, old_end - seconds(part.get(6, part[5])))
         return NOW, min(NOW + life, seconds(part[8]), LAST), seconds(part[8])
 
@@ -425,24 +455,25 @@ def request_of(first, kind, padata, body):
     return der(first, tagged({1: number(5), 2: number(kind), 3: entries, 4: body}))
 
 
-def as_request(options, **asked):
+def as_request(options, who=b"a", key=A_KEY.key, **asked):
     stamp = tagged({0: moment(NOW), 1: number(0)})
-    value = encrypted(18, None, sealed(18, A_KEY.key, TIMESTAMP, CONFOUNDER, stamp))
-    return request_of(0x6A, 10, [(2, value)], body_of(options, asked.pop("service", KRBTGT), client=(1, [b"a"]), **asked))
+    padata = [] if key is None else [(2, encrypted(18, None, sealed(18, key, TIMESTAMP, CONFOUNDER, stamp)))]
+    return request_of(0x6A, 10, padata, body_of(options, asked.pop("service", KRBTGT), client=(1, [who]), **asked))
 
 
-def ticket_of(given, auth=NOW - HOUR, start=NOW - HOUR, end=NOW + 9 * HOUR, till=None):
+def ticket_of(given, auth=NOW - HOUR, start=NOW - HOUR, end=NOW + 9 * HOUR, till=None, who=b"a", under=(18, 1, bytes(32))):
     part = der(0x63, tagged({
-        0: flags(given), 1: typed(18, SESSION), 2: text(b"R"), 3: named((1, [b"a"])), 4: typed(1, b""), 5: moment(auth),
+        0: flags(given), 1: typed(18, SESSION), 2: text(b"R"), 3: named((1, [who])), 4: typed(1, b""), 5: moment(auth),
         6: None if start is None else moment(start), 7: moment(end), 8: None if till is None else moment(till)}))
-    cipher = encrypted(18, 1, sealed(18, bytes(32), TICKET_PART, CONFOUNDER, part))
+    suite, kvno, key = under
+    cipher = encrypted(suite, kvno, sealed(suite, key, TICKET_PART, CONFOUNDER, part))
     return der(0x61, tagged({0: number(5), 1: text(b"R"), 2: named(KRBTGT), 3: cipher}))
 
 
-def tgs_request(ticket, options, service=SERVICE, **asked):
+def tgs_request(ticket, options, service=SERVICE, who=b"a", **asked):
     body = body_of(options, service, **asked)
     total = typed(16, sum_of(18, SESSION, BODY_SUM, body))
-    shown = der(0x62, tagged({0: number(5), 1: text(b"R"), 2: named((1, [b"a"])), 3: total, 4: number(0), 5: moment(NOW)}))
+    shown = der(0x62, tagged({0: number(5), 1: text(b"R"), 2: named((1, [who])), 3: total, 4: number(0), 5: moment(NOW)}))
     cipher = encrypted(18, None, sealed(18, SESSION, AUTHENTICATOR, CONFOUNDER, shown))
     ap_req = der(0x6E, tagged({0: number(5), 1: number(14), 2: flags(()), 3: ticket, 4: cipher}))
     return request_of(0x6C, 12, [(1, ap_req)], body)
@@ -557,8 +588,8 @@ def policy_number(forwardable=False, proxiable=False, life=0):
     return 2 * forwardable + 4 * proxiable + 16 * life
 
 
-def rows_of(realm, requests):
-    return "".join(row(label, octets.hex(), realm.reply(octets).hex()) for label, octets in requests)
+def rows_of(realm, requests, accounts=ACCOUNTS):
+    return "".join(row(label, octets.hex(), realm.reply(octets).hex(), accounts=accounts) for label, octets in requests)
 
 
 HEAD = """\

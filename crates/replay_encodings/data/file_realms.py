@@ -79,8 +79,36 @@ def des3_key(password, salt):
 
 # ---- The database -----------------------------------------------------------------------------------------------------------
 
-def account(suite, key, salt=None, kvno=1):
-    return bytes([1, suite]) + kvno.to_bytes(4, "little") + bytes([salt is not None]) + key + (salt or b"")
+def account(suite, key, salt=None, kvno=1, older=(), attributes=None):
+    """Older keys have suite, kvno and key; attributes the second of the end, the greatest lifetime and the marks."""
+    further = b""
+    if attributes is not None:
+        end, lifetime, marks = attributes
+        further = end.to_bytes(8, "little") + lifetime.to_bytes(4, "little") + bytes([marks])
+    if older:
+        further += bytes([len(older)]) + b"".join(bytes([own]) + number.to_bytes(4, "little") + octets for own, number, octets in older)
+    marks = (salt is not None) + 2 * bool(older) + 4 * (attributes is not None)
+    return bytes([1, suite]) + kvno.to_bytes(4, "little") + bytes([marks]) + key + further + (salt or b"")
+
+
+def read_account(record):
+    """Keys of a record, each with suite, kvno and octets, the newest first; its attributes; its salt."""
+    size = KEY_SIZES[record[1]]
+    keys, attributes, rest = [(record[1], int.from_bytes(record[2:6], "little"), record[7 : 7 + size])], (0, 0, 0), record[7 + size :]
+    if record[6] & 4:
+        attributes, rest = (int.from_bytes(rest[:8], "little"), int.from_bytes(rest[8:12], "little"), rest[12]), rest[13:]
+    if record[6] & 2:
+        count, rest = rest[0], rest[1:]
+        for _ in range(count):
+            size = KEY_SIZES[rest[0]]
+            keys.append((rest[0], int.from_bytes(rest[1:5], "little"), rest[5 : 5 + size]))
+            rest = rest[5 + size :]
+    return keys, attributes, rest if record[6] & 1 else None
+
+
+def key_for(sealed, keys):
+    """The key whose kvno an EncryptedData has, or the newest."""
+    return next((key for key in keys if sealed.get(1, key[1]) == key[1]), keys[0])
 
 
 def realm_record(name, skew, lifetime, policy=0):
@@ -235,9 +263,12 @@ def ap_req_of(request):
 
 
 def ticket_part(request, accounts):
-    """The EncTicketPart that opens under the key of krbtgt, or None. Nothing else of ticket and AP-REQ matters."""
-    ap_req, krbtgt = ap_req_of(request), key_in(accounts, b"krbtgt", b"R")
-    return opened(*krbtgt, TICKET, ap_req[3][3], forms.TICKET_PART) if ap_req and krbtgt else None
+    """The EncTicketPart that opens under the key of krbtgt that has its kvno, or None. Nothing else of ticket and AP-REQ matters."""
+    ap_req, record = ap_req_of(request), dict(accounts).get(key_of(b"krbtgt", b"R"))
+    if not ap_req or not record:
+        return None
+    suite, _, key = key_for(ap_req[3][3], read_account(record)[0])
+    return opened(suite, key, TICKET, ap_req[3][3], forms.TICKET_PART)
 
 
 def ticket_client(request, accounts):

@@ -2,16 +2,17 @@
 //! faults were written by hand (`data/account_texts.py`).
 //!
 //! A row has fields with `|` between: what is done, the text, arguments, and the outcome. In a field `^n` is a line feed and `^t` a tab. Two
-//! kinds of rows have no text: of `typed` a realm's name, and of `matches` a pattern and a name.
+//! kinds of rows have no text: of `typed` a realm's name, and of `matches` a pattern and a name. What is done with a key of a password has
+//! `-salted` behind it, and the salt as its last argument.
 
 use anyhow::bail;
 use krb_account_texts::{
-    AccountLine, EditRefusal, Line, LineFault, Pattern, TextFault, add, can_be_typed, certify,
-    change_key, check_order, disable, enable, read_key, read_lines, read_name, remove, suite_named,
-    text_of,
+    AccountLine, EditRefusal, Line, LineFault, Pattern, TextFault, add, allow, can_be_typed,
+    certify, change_key, check_order, disable, enable, keep_key, purge, read_key, read_lines,
+    read_name, remove, suite_named, text_of,
 };
 use krb_crypto::Key;
-use krb_realm_accounts::Account;
+use krb_realm_accounts::{Account, Attributes, NO_ATTRIBUTES};
 use picky_asn1::wrapper::OctetStringAsn1;
 use std::alloc::Global;
 use test_support::rows::replay;
@@ -25,14 +26,24 @@ pub(crate) fn replay_account_texts(rt: &HostRuntime) -> anyhow::Result<()> {
 #[derive(Clone, Copy)]
 struct AccountTexts;
 
+/// The attributes that `off` sets.
+const OFF: Attributes = Attributes {
+    ends: 0,
+    is_off: true,
+    must_change: false,
+    lifetime: 0,
+    is_no_service: false,
+};
+
 /// What is done with a text, and its arguments, which are empty where there are none. The name of `certify` is what logins by certificate are
-/// answered by.
+/// answered by. The salt is that of a password's key.
 #[derive(Clone, Copy)]
 struct Edit<'a> {
     what: &'a str,
     name: &'a str,
     suite: &'a str,
     key: &'a str,
+    salt: Option<&'a str>,
 }
 
 impl Rows for AccountTexts {
@@ -65,13 +76,18 @@ fn is_as_told(alloc: Global, what: &str, row: &mut Row<'_>) -> anyhow::Result<bo
 
 /// Reads the arguments of what is done with a text.
 fn edit_of<'a>(what: &'a str, row: &mut Row<'a>) -> Edit<'a> {
+    let (what, has_salt) = match what.strip_suffix("-salted") {
+        Some(what) => (what, true),
+        None => (what, false),
+    };
     let has_name = what != "read";
-    let has_key = what == "key" || what == "add";
+    let has_key = what == "key" || what == "keep" || what == "add";
     Edit {
         what,
         name: if has_name { row.word() } else { "" },
         suite: if has_key { row.word() } else { "" },
         key: if has_key { row.word() } else { "" },
+        salt: if has_salt { Some(row.word()) } else { None },
     }
 }
 
@@ -121,15 +137,21 @@ fn edited(
         "remove" => return Ok(remove(lines, components).err()),
         "disable" => return Ok(disable(lines, components).err()),
         "enable" => return Ok(enable(lines, components).err()),
+        "purge" => return Ok(purge(lines, components).err()),
+        "off" => return Ok(allow(lines, components, OFF).err()),
         _ => {}
     }
     let key = key_of(alloc, edit)?;
+    let salt = salt_of(alloc, edit)?;
     if edit.what == "key" {
-        return Ok(change_key(lines, components, key, None).err());
+        return Ok(change_key(lines, components, key, salt).err());
+    }
+    if edit.what == "keep" {
+        return Ok(keep_key(alloc, lines, components, key, salt).err());
     }
     let line = AccountLine {
         name,
-        account: Account::new(key, 1, None),
+        account: Account::new(key, 1, salt),
         is_disabled: false,
     };
     Ok(add(lines, line).err())
@@ -140,6 +162,15 @@ fn pkinit_of(alloc: Global, digits: &str) -> anyhow::Result<Option<OctetStringAs
     if digits == "-" {
         return Ok(None);
     }
+    let octets = hex::decode(alloc, digits)?;
+    Ok(Some(OctetStringAsn1::from(octets)))
+}
+
+/// The salt of a password's key.
+fn salt_of(alloc: Global, edit: &Edit<'_>) -> anyhow::Result<Option<OctetStringAsn1>> {
+    let Some(digits) = edit.salt else {
+        return Ok(None);
+    };
     let octets = hex::decode(alloc, digits)?;
     Ok(Some(OctetStringAsn1::from(octets)))
 }

@@ -1,6 +1,6 @@
 //! Requests to the realm of a file that is opened anew for each message, whole, damaged and missing. Each reply is compared with that of
 //! an independent implementation, and each entry of the log with what an independent reader says of request and reply.
-//! `data/file_realms.py`, `data/company_realms.py` and `data/pkinit_realms.py` say what the rows are.
+//! `data/file_realms.py`, `data/company_realms.py`, `data/account_realms.py` and `data/pkinit_realms.py` say what the rows are.
 
 mod replies;
 
@@ -22,6 +22,7 @@ pub(crate) fn replay_file_realms(rt: &HostRuntime) -> anyhow::Result<()> {
     };
     replay(rt, &mut realm, "file_realms.txt")?;
     replay(rt, &mut realm, "company_realms.txt")?;
+    replay(rt, &mut realm, "account_realms.txt")?;
     replay(rt, &mut realm, "pkinit_realms.txt")
 }
 

@@ -1,5 +1,6 @@
 //! Judges AS requests by the rows of a realm's table, part by part.
-ghost use Rattle.std.specs.Prelude.{◌≡◌, Some, IfOk};
+ghost use Rattle.std.specs.Prelude.{◌≡◌, ◌≤◌, Some, IfOk};
+ghost use Rattle.krb_kdc_exchanges.specs.Times.{last_second};
 ghost use Rattle.krb_messages.specs.RandomBytes.{AreEnoughForReply};
 ghost use Rattle.krb_kdc_exchanges.specs.AgreedKeys.{as_req_bytes, kdf_context, key_by};
 ghost use Rattle.krb_kdc_exchanges.specs.AsTable.{authenticated, authenticated_by, is_later, is_listed, possible, timestamped};
@@ -38,15 +39,17 @@ pub(crate) fn check_request(realm: &GeneralStringAsn1, request: &KdcReq) -> Resu
 /// Judges the ticket's times, and whether `etype` lists the suite of the client's key.
 pub(crate) fn check_possible(
     call: &Call<'_>,
+    lifetime: u64,
     suite: CipherSuite,
     body: &KdcReqBody,
 ) -> Result<Span, Refusal>
-    ensures { IsJudged (possible (call_of call.now) suite body.now).gives result }
+    requires { lifetime ≤ last_second }
+    ensures { IsJudged (possible (call_of call.now) lifetime suite body.now).gives result }
 {
     if is_later(call, body) {
         return Err(Refusal::Krb(error_codes::KDC_ERR_CANNOT_POSTDATE));
     }
-    let span = lasting(call.settings, call.moment, None, body)?;
+    let span = lasting(lifetime, call.moment, None, body)?;
     if !is_listed(suite, body) {
         return Err(Refusal::Krb(error_codes::KDC_ERR_ETYPE_NOSUPP));
     }

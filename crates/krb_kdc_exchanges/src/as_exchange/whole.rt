@@ -5,6 +5,7 @@ ghost use Rattle.krb_kdc_exchanges.specs.AsTable.{as_table};
 ghost use Rattle.krb_kdc_exchanges.specs.Call.{call_of};
 ghost use Rattle.krb_kdc_exchanges.specs.Granting.{IsGranted};
 
+use crate::allowed::{check_first_allowed, lifetime_of};
 use crate::as_exchange::grant::{Principals, grant};
 use crate::as_exchange::judge::{authenticate, check_possible, check_request};
 use crate::{Call, Granted, Pkinit, client_of, service_of};
@@ -41,15 +42,17 @@ pub fn judge_as<P: Pkinit>(
     let Some(service) = service else {
         return Err(Refusal::Krb(error_codes::KDC_ERR_S_PRINCIPAL_UNKNOWN));
     };
-    let span = check_possible(call, client.suite(), body)?;
-    let name = client_name.name_string.0.as_slice();
-    let authenticated = authenticate(alloc, call, pkinit, client, name, request)?;
     let principals = Principals {
         client_name,
         client,
         service_name,
         service,
     };
+    check_first_allowed(call.moment, principals)?;
+    let lifetime = lifetime_of(call.settings, client, service);
+    let span = check_possible(call, lifetime, client.suite(), body)?;
+    let name = client_name.name_string.0.as_slice();
+    let authenticated = authenticate(alloc, call, pkinit, client, name, request)?;
     let made = grant(alloc, call, principals, &authenticated, span, body);
     drop(authenticated);
     let made = made?;

@@ -14,6 +14,7 @@ ghost use Rattle.krb_crypto.specs.Keys.{KeyRecord};
 ghost use Rattle.krb_kdc_exchanges.specs.SessionKeys.{HasSessionKey, under};
 ghost use Rattle.krb_kdc_exchanges.specs.TgsTable.{addresses_in, first_granted, first_number, further, further_addresses, further_flags, further_grant, further_in, granted_flags, has_des3_key, is_des3, is_granted, reply_key, subkey_in, suite_numbered, without_des3};
 
+use crate::allowed::limited;
 use crate::granted::{Granted, granted_reply};
 use crate::options::{AskedOptions, asked_options};
 use crate::tgs_exchange::options::check_options;
@@ -86,7 +87,8 @@ fn grant_in(
     ensures { IsGranted (further_in renews (call_of call.now) opened.now.part.now opened.now.authenticated.now service_name.now service.now body.now).gives result }
 {
     let part = opened.part;
-    let span = further_lasting(renews, call, part, body)?;
+    let lifetime = limited(service, call.settings.lifetime());
+    let span = further_lasting(renews, lifetime, call.moment, part, body)?;
     let without = without_des3(call, part, service);
     let Some(suite) = first_granted(without, body.etype.0.as_slice()) else {
         return Err(Refusal::Krb(error_codes::KDC_ERR_ETYPE_NOSUPP));

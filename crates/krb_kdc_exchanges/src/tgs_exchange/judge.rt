@@ -8,7 +8,7 @@ ghost use Rattle.krb_kdc_exchanges.specs.TgsTable.{carried, client_and_times, au
 ghost use Rattle.krb_messages.specs.Refusals.{IsJudged};
 
 use crate::options::has_option_beyond;
-use crate::{Call, check_header};
+use crate::{Call, check_header, chosen_key};
 use decision_tables::if_passed;
 use krb_ap_requests::{
     Authenticated, check_authenticator, check_fields, check_times, enc_part_in, open_ticket,
@@ -60,8 +60,8 @@ pub(crate) fn carried(alloc: Global, padata: &[PaData]) -> Result<ApReqInner, Re
     Ok(ap_req)
 }
 
-/// Decrypts the presented ticket. It has to be for this realm's ticket-granting service, which has this name, of a client of the
-/// realm, and valid at the moment.
+/// Decrypts the presented ticket by the key that has its kvno. It has to be for this realm's ticket-granting service, which has this name,
+/// of a client of the realm, and valid at the moment.
 pub(crate) fn open_ticket_granting(
     alloc: Global,
     call: &Call<'_>,
@@ -72,8 +72,10 @@ pub(crate) fn open_ticket_granting(
     requires { name.now ≡ krbtgt_of call.now.realm.now }
     ensures { IsJudged (ticket_granting (call_of call.now) granting.now ap_req.now).gives result }
 {
-    check_fields(call.realm, name, granting.kvno(), ap_req)?;
-    let part = open_ticket(alloc, granting.key(), enc_part_in(ap_req))?;
+    let sealed = enc_part_in(ap_req);
+    let own = chosen_key(sealed, granting);
+    check_fields(call.realm, name, own.kvno, ap_req)?;
+    let part = open_ticket(alloc, own.key, sealed)?;
     let judged = check_client_and_times(call, &part);
     if_passed(part, judged)
 }

@@ -1,5 +1,6 @@
 //! The times of a ticket that is granted by a presented one.
-ghost use Rattle.std.specs.Prelude.{◌≡◌};
+ghost use Rattle.std.specs.Prelude.{◌≡◌, ◌≤◌};
+ghost use Rattle.krb_kdc_exchanges.specs.Times.{last_second};
 ghost use Rattle.krb_kdc_exchanges.specs.Renewals.{IsTill};
 ghost use Rattle.krb_kdc_exchanges.specs.TgsTable.{further_asked, further_lasting, further_till};
 ghost use Rattle.krb_messages.specs.Refusals.{IsJudged};
@@ -11,22 +12,25 @@ use crate::{Call, Span, lasting};
 use krb_messages::Refusal;
 use krb_messages::data_types::EncTicketPartInner;
 use krb_messages::messages::KdcReqBody;
+use krb_time::Moment;
 use picky_asn1::date::GeneralizedTime;
 
 /// The starttime and endtime of the ticket. A renewed one lasts as long as the presented ticket, and up to its renew-till (RFC 4120,
 /// section 3.3.3).
 pub(crate) fn further_lasting(
     renews: bool,
-    call: &Call<'_>,
+    lifetime: u64,
+    moment: Moment,
     part: &EncTicketPartInner,
     body: &KdcReqBody,
 ) -> Result<Span, Refusal>
-    ensures { IsJudged (further_lasting renews call.now.settings.lifetime call.now.moment part.now body.now).gives result }
+    requires { lifetime ≤ last_second }
+    ensures { IsJudged (further_lasting renews lifetime moment part.now body.now).gives result }
 {
     if renews {
-        return lasting_to(life_of(part), call.moment, renew_till_of(part), NO_END);
+        return lasting_to(life_of(part), moment, renew_till_of(part), NO_END);
     }
-    lasting(call.settings, call.moment, Some(part.endtime.0.0), body)
+    lasting(lifetime, moment, Some(part.endtime.0.0), body)
 }
 
 /// The renew-till of the ticket, if it has one: a renewed one has that of the presented ticket.

@@ -5,8 +5,9 @@ ghost use Rattle.krb_kdc_exchanges.specs.Call.{call_of};
 ghost use Rattle.krb_kdc_exchanges.specs.Granting.{IsGranted};
 ghost use Rattle.krb_tickets.specs.Keys.{suite_of};
 ghost use Rattle.krb_kdc_exchanges.specs.SessionKeys.{HasSessionKey};
-ghost use Rattle.krb_kdc_exchanges.specs.TgsTable.{has_account, of_carried, of_authenticated, of_ticket, tgs_granted, tgs_table};
+ghost use Rattle.krb_kdc_exchanges.specs.TgsTable.{allowed_further, of_carried, of_authenticated, of_ticket, tgs_granted, tgs_table};
 
+use crate::allowed::check_further_allowed;
 use crate::tgs_exchange::checksum::check_covered;
 use crate::tgs_exchange::grant::{OpenedApReq, grant};
 use crate::tgs_exchange::judge::{
@@ -19,6 +20,7 @@ use krb_crypto::Key;
 use krb_messages::data_types::{EncTicketPartInner, PrincipalName};
 use krb_messages::messages::{ApReqInner, KdcReq, KdcReqBody};
 use krb_messages::{Refusal, krbtgt_of, padata_in};
+use krb_realm_accounts::Account;
 use std::alloc::Global;
 
 /// Judges a TGS request by the realm's table (RFC 4120, section 3.3.3). It gives the reply that grants the service ticket, or
@@ -116,21 +118,33 @@ fn judge_accounts(
     requires key { HasSessionKey opened.now }
     ensures { IsGranted (tgs_granted (call_of call.now) opened.now.part.now opened.now.authenticated.now body.now).gives result }
 {
-    if !has_account(call, &opened.part.cname.0) {
+    let client_name = opened.part.cname.0.name_string.0.as_slice();
+    let Some(client) = call.accounts.get(client_name) else {
         return Err(Refusal::Krb(error_codes::KDC_ERR_C_PRINCIPAL_UNKNOWN));
-    }
+    };
     let Some(service_name) = service_of(body) else {
         return Err(Refusal::Krb(error_codes::KDC_ERR_S_PRINCIPAL_UNKNOWN));
     };
     let Some(service) = call.accounts.get(service_name.name_string.0.as_slice()) else {
         return Err(Refusal::Krb(error_codes::KDC_ERR_S_PRINCIPAL_UNKNOWN));
     };
-    grant(alloc, call, opened, service_name, service, body)
+    judge_allowed(alloc, call, opened, client, service_name, service, body)
 }
 
-// Whether the name has an account.
-fn has_account(call: &Call<'_>, name: &PrincipalName) -> bool
-    ensures { result ≡ has_account (call_of call.now) name.now }
+// Judges what the attributes of both accounts allow, and makes the reply.
+fn judge_allowed(
+    alloc: Global,
+    call: &Call<'_>,
+    opened: &OpenedApReq<'_>,
+    client: &Account,
+    service_name: &PrincipalName,
+    service: &Account,
+    body: &KdcReqBody,
+) -> Result<Granted, Refusal>
+    requires words { AreEnoughForReply call.now.words.now }
+    requires key { HasSessionKey opened.now }
+    ensures { IsGranted (allowed_further (call_of call.now) opened.now.part.now opened.now.authenticated.now client.now service_name.now service.now body.now).gives result }
 {
-    call.accounts.get(name.name_string.0.as_slice()).is_some()
+    check_further_allowed(call.moment, client, service)?;
+    grant(alloc, call, opened, service_name, service, body)
 }

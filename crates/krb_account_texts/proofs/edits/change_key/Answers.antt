@@ -1,5 +1,5 @@
-use Rattle.std.proofs.Common.{◌≡◌, ◌<◌, List, length, set, None, Some, refl, sym, subst, ap, ◌∙◌}
-use Rattle.krb_account_texts.specs.Edits.{is_name_spent, is_spent, place_of, rekeyed}
+use Rattle.std.proofs.Common.{◌≡◌, ◌<◌, Bool, List, length, set, None, Some, refl, sym, subst, ap, ◌∙◌}
+use Rattle.krb_account_texts.specs.Edits.{guards_password, is_name_spent, is_spent, place_of, rekeyed}
 use Rattle.krb_account_texts.specs.declared.line.Line.{Line}
 use Rattle.krb_account_texts.proofs.Places.{changed-at, on-ok, spent-at, spent-there, unknown-there, unspent}
 use Rattle.krb_account_texts.proofs.edits.change_key.Goals as goal
@@ -9,9 +9,12 @@ returns-clause-ok c =
     let old : List Line = c.args.lines.now.items in
     let found = subst (λ (lines : List Line). place_of c.args.name.now lines ≡ Some c.in-Some.place) c.deref.ensures.value (sym c.in-Some.ensures.first) in
     let inside = subst (λ (lines : List Line). c.in-Some.place < length lines) c.deref.ensures.value c.in-Some.ensures.within in
+    let guards : c.guards_password-guards.result ≡ guards_password c.args.name.now old = c.guards_password-guards.ensures ∙ ap (guards_password c.args.name.now) c.deref-2.ensures.value in
+    let next : Bool → Line → Line = λ (guarding : Bool). rekeyed guarding c.args.key.suite c.args.key.bytes c.args.salt in
     on-ok c.rekey.result c.rekey.ensures.ok (λ is.
-    changed-at c.args.name.now (rekeyed c.args.key.suite c.args.key.bytes c.args.salt) old _ c.in-Some.place c.index_mut.result.now found inside
-    (ap (λ (line : Line). set old c.in-Some.place line) (is ∙ ap (rekeyed c.args.key.suite c.args.key.bytes c.args.salt) c.index_mut.ensures.value)))
+    changed-at c.args.name.now (next (guards_password c.args.name.now old)) old _ c.in-Some.place c.index_mut.result.now found inside
+    (ap (λ (line : Line). set old c.in-Some.place line)
+    (is ∙ ap (λ (guarding : Bool). next guarding c.index_mut.result.now) guards ∙ ap (next (guards_password c.args.name.now old)) c.index_mut.ensures.value)))
 
 pub returns-clause-spent : goal.returns-clause-spent
 returns-clause-spent c =

@@ -11,5 +11,4 @@ pub returns : goal.returns
 returns c =
     let old = option_map seconds_of c.args.old in
     let r : Result Span Refusal = c.lasting_to.result in
-    subst (λ (lifetime : ℕ). IsJudged {T = Span} (lasting_to lifetime c.args.moment old (seconds_of c.args.body.now.till.0.0)).gives r) c.lifetime.ensures.value
-    (subst (λ (till : ℕ). IsJudged {T = Span} (lasting_to c.lifetime.result c.args.moment old till).gives r) c.seconds-till.ensures.value c.lasting_to.ensures)
+    subst (λ (till : ℕ). IsJudged {T = Span} (lasting_to c.args.lifetime c.args.moment old till).gives r) c.seconds-till.ensures.value c.lasting_to.ensures

@@ -11,9 +11,9 @@ use Rattle.krb_kdc_exchanges.proofs.tgs_exchange.renewing.further_lasting.Goals 
 pub returns-then-renews : goal.returns-then-renews
 returns-then-renews c =
     let part = c.args.part.now in
-    let moment = c.args.call.now.moment in
+    let moment = c.args.moment in
     let r : Result Span Refusal = c.lasting_to.result in
-    subst (λ (renews : Bool). IsJudged {T = Span} (further_lasting renews c.args.call.now.settings.lifetime moment part c.args.body.now).gives r) (sym c.if-renews.true)
+    subst (λ (renews : Bool). IsJudged {T = Span} (further_lasting renews c.args.lifetime moment part c.args.body.now).gives r) (sym c.if-renews.true)
     (subst (λ (life : ℕ). IsJudged {T = Span} (lasting_to life moment (renew_till_of part) no_end).gives r) c.life_of.ensures.value
     (subst (λ (old : Option ℕ). IsJudged {T = Span} (lasting_to c.life_of.result moment old no_end).gives r) c.renew_till_of.ensures c.lasting_to.ensures))
 
@@ -21,5 +21,5 @@ pub returns : goal.returns
 returns c =
     let part = c.args.part.now in
     let r : Result Span Refusal = c.lasting.result in
-    subst (λ (renews : Bool). IsJudged {T = Span} (further_lasting renews c.args.call.now.settings.lifetime c.args.call.now.moment part c.args.body.now).gives r) (sym c.if-renews.false)
+    subst (λ (renews : Bool). IsJudged {T = Span} (further_lasting renews c.args.lifetime c.args.moment part c.args.body.now).gives r) (sym c.if-renews.false)
     c.lasting.ensures

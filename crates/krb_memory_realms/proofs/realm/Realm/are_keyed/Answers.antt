@@ -5,4 +5,4 @@ use Rattle.krb_memory_realms.specs.Realm.{RealmState}
 use Rattle.krb_memory_realms.proofs.realm.Realm.are_keyed.Goals as goal
 
 pub returns : goal.returns
-returns c = subst (λ (r : RealmState). AreKeyed (look_in r.accounts)) c.self.view_is c.self.invariant.keyed
+returns c = subst (λ (r : RealmState). AreKeyed (look_in r.accounts)) c.self.view_is (λ name account found. (c.self.invariant.own name account found).keyed)

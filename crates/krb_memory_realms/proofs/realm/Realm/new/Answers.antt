@@ -3,4 +3,4 @@ use Rattle.krb_memory_realms.proofs.realm.Realm.new.Goals as goal
 
 pub invariant_of-result : goal.invariant_of-result
 invariant_of-result c =
-    made_realm c.in_ok-own.own c.new-accounts.result _ c.in_ok-service.service.items c.in_ok-granting.granting c.new-accounts.ensures c.in_ok-service.ensures c.is_keyed.ensures c.in-Ok.ensures.ok
+    made_realm c.in_ok-own.own c.new-accounts.result _ c.in_ok-service.service.items c.in_ok-granting.granting c.new-accounts.ensures c.in_ok-service.ensures c.is_own.ensures c.in-Ok.ensures.ok

@@ -2,7 +2,7 @@ use Rattle.std.proofs.Common.{◌≢◌, ℕ, subst, ◌∙◌}
 use Rattle.krb_crypto.specs.Suites.{cipher_number}
 use Rattle.krb_crypto.specs.declared.suite.CipherSuite.{CipherSuite}
 use Rattle.krb_realm_files.proofs.Numbered.{numbered, unnumbered}
-use Rattle.krb_realm_files.proofs.account_record.suite_numbered.Goals as goal
+use Rattle.krb_realm_files.proofs.further_fields.suite_numbered.Goals as goal
 
 pub returns : goal.returns
 returns c = numbered c.in-Ok.suite c.args.number (c.in-Ok.ensures ∙ c.from.ensures)
