@@ -23,8 +23,8 @@ conf=$top/examples/pkinit.cnf
 [ $# -gt 0 ] || set -- mit
 for kdc in "$@"; do
     case $kdc in
-        mit | realm) ;;
-        *) echo "$script: $kdc: expected mit or realm" >&2 && exit 2 ;;
+        mit | heimdal | samba | realm) ;;
+        *) echo "$script: $kdc: expected mit, heimdal, samba or realm" >&2 && exit 2 ;;
     esac
 done
 need python3 python3
@@ -33,13 +33,14 @@ need krb5kdc krb5-kdc
 need kadmin.local krb5-admin-server
 need kvno krb5-user
 need gss-client krb5-gss-samples
+case " $* " in *" samba "*) need samba samba && need samba-tool samba ;; esac
 if ! ls /usr/lib/*/krb5/plugins/preauth/pkinit.so >/dev/null 2>&1; then
     echo "$script: MIT's PKINIT module is missing (Debian: krb5-pkinit)" >&2
     missing=1
 fi
 [ "$missing" -eq 0 ] || exit 2
 program KRB_LOGIN krb_login
-case " $* " in *" realm "*) fetch_heimdal kinit.heimdal heimdal-clients ;; esac
+case " $* " in *" realm "* | *" heimdal "*) fetch_heimdal kinit.heimdal heimdal-clients heimdal-kdc ;; esac
 
 # made FOLDER BITS: an authority, and its certificates for the KDC and the user, with RSA keys of so many bits.
 made() {
@@ -189,6 +190,88 @@ mit_rows() {
     refused_rows
     # krb5kdc itself doesn't sign by it.
     refused_kdcs mit_with "refused: KDC_ERR_PREAUTH_FAILED (24)"
+}
+
+# ==== Heimdal's kdc
+
+heimdal() {
+    KRB5_CONFIG=$work/heimdal.conf TZ=UTC LD_LIBRARY_PATH=$libraries "$@"
+}
+
+heimdal_rows() {
+    kdc_has "$work/2048" kdc
+    start_heimdal "enable-pkinit = yes
+    pkinit_identity = FILE:$work/kdc.pem,$work/kdc.key
+    pkinit_anchors = FILE:$work/kdc.anchor"
+    {
+        kadmin_heimdal add --random-key --use-defaults "host/$host"
+        kadmin_heimdal add --random-key --attributes=requires-pre-auth --use-defaults user
+        kadmin_heimdal add --random-key --attributes=requires-pre-auth --use-defaults alice
+        kadmin_heimdal ext_keytab "--keytab=$work/host.keytab" "host/$host"
+    } >>"$work/log" 2>&1
+    try "login" yes "" login -s "host/$host"
+    uses "Heimdal's kdc"
+    sizes mit_with
+    try "another user, by its own certificate" yes "" by alice.pem alice.key anchor.pem alice@EXAMPLE.COM
+    refused_by_stock
+    refused_kdcs mit_with "the reply isn't signed by the realm"
+}
+
+# What Heimdal's kdc refuses, alone and in a domain controller.
+refused_by_stock() {
+    try "another authority's certificate" no "refused: " by ../other/client.pem ../other/client.key anchor.pem user@EXAMPLE.COM
+    try "an expired certificate" no "refused: " by late.pem late.key anchor.pem user@EXAMPLE.COM
+    try "another user's certificate" no "refused: " by alice.pem alice.key anchor.pem user@EXAMPLE.COM
+    try "another key than the certificate's" no "refused: " by client.pem alice.key anchor.pem user@EXAMPLE.COM
+    try "the KDC's authority isn't trusted" no "user@EXAMPLE.COM: the reply isn't signed by the realm" by client.pem client.key ../other/anchor.pem user@EXAMPLE.COM
+}
+
+# ==== Samba's domain controller
+
+domain() {
+    samba-tool "$@" -s "$work/domain/etc/smb.conf"
+}
+
+# A domain controller of which its KDC alone runs, with the certificate that the KDC has; sets port and bridge.
+start_domain() {
+    configuration 127.0.0.1:PORT "" >"$work/domain.in"
+    cat >>"$work/domain.in" <<CONF
+[kdc]
+    enable-pkinit = yes
+    pkinit_identity = FILE:$work/kdc.pem,$work/kdc.key
+    pkinit_anchors = FILE:$work/kdc.anchor
+CONF
+    {
+        samba-tool domain provision "--targetdir=$work/domain" --realm=EXAMPLE.COM --domain=EXAMPLE --server-role=dc --dns-backend=NONE \
+            --host-name=dc1 --host-ip=127.0.0.1 "--adminpass=$(openssl rand -hex 16)Aa" --option="vfs objects = acl_xattr xattr_tdb"
+        sed -i "/server services/d; /log file/d; s|^\\[global]|&\n interfaces = lo\n bind interfaces only = yes\n log file = $work/log.%m|" "$work/domain/etc/smb.conf"
+        domain user create user --random-password
+        domain user create alice --random-password
+        domain user create server --random-password
+        domain spn add "host/$host" server
+        domain domain exportkeytab "$work/host.keytab" "--principal=host/$host"
+    } >>"$work/log" 2>&1
+    cat >"$work/start" <<START
+#!/bin/sh
+sed "s/PORT/\$1/" $work/domain.in >$work/mit.conf
+mkdir -p $work/run
+KRB5_CONFIG=$work/mit.conf exec samba -i -M single -s $work/domain/etc/smb.conf --option="server services = kdc" --option="krb5 port = \$1" \
+    --option="kpasswd port = 0" --option="pid directory = $work/run" --option="ncalrpc dir = $work/run/ncalrpc" --option="cache directory = $work/run"
+START
+    chmod +x "$work/start"
+    listen "$work/start" PORT
+    bridge=$started
+}
+
+samba_rows() {
+    kdc_has "$work/2048" kdc
+    start_domain
+    try "login" yes "" login -s "host/$host"
+    uses "Samba's domain controller"
+    sizes mit_with
+    try "another user, by its own certificate" yes "" by alice.pem alice.key anchor.pem alice@EXAMPLE.COM
+    refused_by_stock
+    refused_kdcs mit_with "the reply isn't signed by the realm"
 }
 
 # ==== this project's realm

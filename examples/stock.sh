@@ -174,8 +174,8 @@ START
     bridge=$started
 }
 
-# Heimdal's kdc over TCP, with a database of its own in the temporary folder, by the programs that fetch_heimdal found; heimdal runs one of
-# them. Sets started, port and bridge, and writes heimdal.conf and mit.conf.
+# start_heimdal [LINES]: Heimdal's kdc over TCP, with a database of its own in the temporary folder, by the programs that fetch_heimdal found,
+# and these settings of PKINIT; heimdal runs one of them. Sets started, port and bridge, and writes heimdal.conf and mit.conf.
 start_heimdal() {
     heimdal_kdc=$(ls "$heimdal_folder/usr/lib/heimdal-servers/kdc" /usr/lib/heimdal-servers/kdc 2>/dev/null | head -n 1)
     cat >"$work/heimdal.in" <<CONF
@@ -187,7 +187,7 @@ start_heimdal() {
         log_file = $work/heimdal_changes
         acl_file = $work/acl
     }
-    enable-pkinit = no
+    ${1:-enable-pkinit = no}
     require-preauth = no
 [logging]
     default = FILE:$work/heimdal.log

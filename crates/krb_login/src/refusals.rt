@@ -13,7 +13,8 @@ use krb_settings::suite_name;
 use std::alloc::Global;
 
 /// What to do where the suites don't fit.
-const OTHER_SUITES: &str = "; -e SUITE asks for others, as -e des3-cbc-sha1-kd";
+const OTHER_SUITES: &str =
+    "; -e SUITE asks for others, as -e des3-cbc-sha1-kd; RC4 is never asked for: an account with RC4 keys alone needs a new password";
 
 /// What to look at where the realm is unknown.
 const UPPER_CASE: &str = "; hint: realms are mostly written in upper case";
@@ -35,7 +36,7 @@ pub(crate) fn stop_of(
         ExchangeFault::Memory => Stop::Memory,
         ExchangeFault::Kdc(stop) => stop,
         ExchangeFault::Refused(LoginRefusal::NotMade(suite, HintedClientRefusal::OtherSalt)) => {
-            other_salt(alloc, name, suite)
+            other_salt(alloc, login, name, suite)
         }
         ExchangeFault::Refused(refusal) => {
             let advice = advice_for(login, refusal);
@@ -44,9 +45,12 @@ pub(crate) fn stop_of(
     }
 }
 
-fn other_salt(alloc: Global, name: &str, suite: CipherSuite) -> Stop {
+fn other_salt(alloc: Global, login: &Login<'_>, name: &str, suite: CipherSuite) -> Stop {
     let refusal = HintedClientRefusal::OtherSalt;
     let suite = suite_name(suite);
+    if is_lower_case(login) {
+        return refused(alloc, format_args!("{name}: {refusal}{UPPER_CASE}"));
+    }
     refused(
         alloc,
         format_args!(
@@ -62,23 +66,25 @@ fn advice_for(login: &Login<'_>, refusal: LoginRefusal) -> &'static str {
         LoginRefusal::NotHinted(HintRefusal::NoSuite | HintRefusal::NoHint) => OTHER_SUITES,
         LoginRefusal::NotHinted(HintRefusal::Refused(code))
         | LoginRefusal::NotTaken(TakeRefusal::Refused(code)) => advice_for_code(login, code),
+        // A domain controller names its realm in upper case, whatever it was asked for.
+        LoginRefusal::NotTaken(TakeRefusal::NotAsked) if is_lower_case(login) => UPPER_CASE,
         _ => "",
     }
 }
 
 // What to do after an error of this code.
 fn advice_for_code(login: &Login<'_>, code: u32) -> &'static str {
-    let realm = login.user.client.realm().as_bytes();
     match code {
         KDC_ERR_ETYPE_NOSUPP => OTHER_SUITES,
-        KDC_ERR_C_PRINCIPAL_UNKNOWN | KDC_ERR_WRONG_REALM if has_lower_case(realm) => UPPER_CASE,
+        KDC_ERR_C_PRINCIPAL_UNKNOWN | KDC_ERR_WRONG_REALM if is_lower_case(login) => UPPER_CASE,
         KDC_ERR_BADOPTION if login.settings.flags.is_renewal => RENEWABLE,
         KRB_AP_ERR_TKT_EXPIRED if login.settings.flags.is_renewal => ANEW,
         _ => "",
     }
 }
 
-// Whether a realm's name has a letter in lower case.
-fn has_lower_case(realm: &[u8]) -> bool {
+// Whether the user's realm has a letter in lower case.
+fn is_lower_case(login: &Login<'_>) -> bool {
+    let realm = login.user.client.realm().as_bytes();
     realm.iter().any(|octet| octet.is_ascii_lowercase())
 }
