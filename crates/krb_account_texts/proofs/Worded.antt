@@ -198,14 +198,14 @@ guard-step limits forwardable proxiable life false more = refl
 
 agility-step : (limits forwardable proxiable : Bool) (life : ℕ) (guards is : Bool) (more : List (List ℕ))
     → words_behind (agreed limits forwardable proxiable life guards false false) (word_if is (codes "pkinit-agility") ++ more)
-        ≡ words_behind (agreed limits forwardable proxiable life guards is false) more
+    ≡ words_behind (agreed limits forwardable proxiable life guards is false) more
 unfolding next_words
 agility-step limits forwardable proxiable life guards true more = refl
 agility-step limits forwardable proxiable life guards false more = refl
 
 sha1-step : (limits forwardable proxiable : Bool) (life : ℕ) (guards agile is : Bool) (more : List (List ℕ))
     → words_behind (agreed limits forwardable proxiable life guards agile false) (word_if is (codes "pkinit-sha1") ++ more)
-        ≡ words_behind (agreed limits forwardable proxiable life guards agile is) more
+    ≡ words_behind (agreed limits forwardable proxiable life guards agile is) more
 unfolding next_words
 sha1-step limits forwardable proxiable life guards agile true more = refl
 sha1-step limits forwardable proxiable life guards agile false more = refl

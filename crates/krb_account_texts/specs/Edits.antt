@@ -43,8 +43,8 @@ HasOneLess name old new =
 abbrev pub is_krbtgt : Bytes → List Bytes → Bool
 is_krbtgt realm name = is_same_name name (krbtgt_of realm)
 
--- The realm of this line guards the password of an account of this name: the line has the word `guards-passwords`, and the name isn't that of
--- its own ticket-granting service, for which there are always tickets.
+-- The realm of this line guards the password of an account of this name: the line has the word `guards-passwords`, and the name isn't that
+-- of its own ticket-granting service, for which there are always tickets.
 abbrev pub is_guarding : Option RealmLine → List Bytes → Bool
 is_guarding None name = false
 is_guarding (Some own) name = own.guards_passwords && not (is_krbtgt own.name name)
@@ -53,8 +53,8 @@ is_guarding (Some own) name = own.guards_passwords && not (is_krbtgt own.name na
 abbrev pub guards_password : List Bytes → List Line → Bool
 guards_password name lines = is_guarding (realm_among lines) name
 
--- The account as a realm keeps it that guards its password or doesn't. Where it does, an account with a salt, whose key is of a password, has
--- the mark that there is no ticket for it as a service: by such a ticket its password could be guessed.
+-- The account as a realm keeps it that guards its password or doesn't. Where it does, an account with a salt, whose key is of a password,
+-- has the mark that there is no ticket for it as a service: by such a ticket its password could be guessed.
 abbrev pub guarded_account : Bool → AccountRecord → AccountRecord
 guarded_account guards own =
     if guards && is_some own.salt then record own { attributes = record own.attributes { is_no_service = true } } else own
@@ -68,8 +68,8 @@ abbrev pub added_line : Bool → AccountLine → Line
 added_line guards own =
     line.Account (record { name = own.name; account = guarded_account guards own.account; is_disabled = own.is_disabled })
 
--- The account with its next key, and none before it: the kvno is higher by one. Its attributes stay, but its password needn't be changed any
--- more.
+-- The account with its next key, and none before it: the kvno is higher by one. Its attributes stay, but its password needn't be changed
+-- any more.
 abbrev pub next_account : CipherSuite → Bytes → Option Bytes → AccountRecord → AccountRecord
 next_account suite key salt own = record (next_key suite key own) { salt = salt }
 

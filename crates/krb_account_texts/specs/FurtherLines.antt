@@ -1,5 +1,5 @@
--- What follows the key in an account's line, where the account has attributes or older keys: its last second, its greatest lifetime, its marks,
--- and a field for each older key, the newest first.
+-- What follows the key in an account's line, where the account has attributes or older keys: its last second, its greatest lifetime, its
+-- marks, and a field for each older key, the newest first.
 use Rattle.std.specs.Prelude.{ℕ, ◌-◌, ◌==◌, ◌||◌, nat_lt, Bool, true, false, if◌then◌else◌, List, [], ◌++◌, length, codes}
 use Rattle.std.specs.List.{flat_map}
 use Rattle.std.specs.Fmt.{decimal}
@@ -17,8 +17,8 @@ ends_text ends = if ends == 0 then codes "-" else decimal (ends - EPOCH)
 abbrev pub lifetime_text : ℕ → List ℕ
 lifetime_text lifetime = if lifetime == 0 then codes "-" else decimal lifetime
 
--- The words of the marks that are set: the account is switched off, its password has to be changed, there is no ticket for it as a service. There
--- is a comma between each two, and `-` stands for none.
+-- The words of the marks that are set: the account is switched off, its password has to be changed, there is no ticket for it as a service.
+-- There is a comma between each two, and `-` stands for none.
 unfoldable pub marks_text : Bool → Bool → Bool → List ℕ
 marks_text false false false = codes "-"
 marks_text true false false = codes "off"

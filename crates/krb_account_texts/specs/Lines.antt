@@ -1,6 +1,6 @@
 -- The lines of a text of accounts, and what each is written as. A tab (9) is between each two fields, and a line feed (10) after each
 -- line.
-use Rattle.std.specs.Prelude.{ℕ, ◌==◌, nat_lt, Bool, true, false, if◌then◌else◌, List, [], ◌∷◌, ◌++◌, length, slice_index, codes, string_bytes, Option, None, Some, is_some}
+use Rattle.std.specs.Prelude.{ℕ, ◌==◌, nat_lt, Bool, if◌then◌else◌, List, [], ◌∷◌, ◌++◌, length, slice_index, codes, string_bytes, Option, None, Some, is_some}
 use Rattle.std.specs.List.{flat_map}
 use Rattle.std.specs.Fmt.{decimal}
 use Rattle.hex.specs.Hex.{encode_lower}
@@ -74,8 +74,8 @@ realm_text name settings guards pkinit =
 abbrev pub guarded : List ℕ → List ℕ
 guarded text = if slice_index text 0 == 35 then 92 ∷ text else text
 
--- An account's fields: the name as RFC 1964 writes it (section 2.1.3), the suite, the kvno, the salt and the key, and what follows where the
--- account has attributes or older keys.
+-- An account's fields: the name as RFC 1964 writes it (section 2.1.3), the suite, the kvno, the salt and the key, and what follows where
+-- the account has attributes or older keys.
 abbrev pub account_fields : List Bytes → AccountRecord → List ℕ
 account_fields name own =
     guarded (name_text name) ++ (codes "\t" ++ (suite_name own.suite ++ (codes "\t" ++ (decimal own.kvno ++ (codes "\t" ++ (salt_text own.salt ++ (codes "\t" ++ (encode_lower own.key ++ further_fields own))))))))

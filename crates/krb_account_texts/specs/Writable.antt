@@ -41,8 +41,8 @@ IsSalt (Some salt) = IsTrue (is_ascii salt)
 abbrev pub IsEnd : ℕ → Type 0
 IsEnd ends = (ends ≡ 0) ⊎ ((EPOCH < ends) × (ends < EPOCH + 2 ^ 32))
 
--- An account has a principal's name, a key of its suite's length, a salt whose octets are below 128 or none, a kvno from 1 to 2^32 - 1, keys before
--- it whose kvnos fall, an end in the range of a text or none, and a greatest lifetime below 2^32 seconds.
+-- An account has a principal's name, a key of its suite's length, a salt whose octets are below 128 or none, a kvno from 1 to 2^32 - 1,
+-- keys before it whose kvnos fall, an end in the range of a text or none, and a greatest lifetime below 2^32 seconds.
 pub record IsAccount (name : List Bytes) (own : AccountRecord) : Type 0 where
   pub name_is : AreComponents name
   pub key_size : length own.key ≡ cipher_key_size own.suite

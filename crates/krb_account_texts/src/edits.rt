@@ -345,8 +345,8 @@ pub fn is_krbtgt(realm: &[u8], name: &[GeneralStringAsn1]) -> bool
     first.as_bytes() == krbtgt() && second.as_bytes() == realm
 }
 
-/// Gives the realm what its logins by certificate are answered by, or takes it away. All other lines stay. It is refused as `Unknown` only if
-/// there is no line of a realm.
+/// Gives the realm what its logins by certificate are answered by, or takes it away. All other lines stay. It is refused as `Unknown` only
+/// if there is no line of a realm.
 pub fn certify(lines: &mut Vec<Line>, pkinit: Option<OctetStringAsn1>) -> Result<(), EditRefusal>
     ensures ok { OnOk result (HasCertified pkinit lines.old.items lines.new.items) }
     ensures refusal { IfErr result (λ e. (e ≡ EditRefusal.Unknown) × (realm_place lines.old.items ≡ None)) }

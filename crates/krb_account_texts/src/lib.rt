@@ -8,13 +8,13 @@
 //! user    aes128-cts-hmac-sha256-128    3    4558..    (32 hexadecimal digits)
 //! ```
 //!
-//! A tab, and no blank, is between each two fields. An account's are its name as RFC 1964 writes it, the suite, the kvno, the salt or
-//! `-`, and the key. Where it has attributes or older keys, its last second, its greatest lifetime, its marks and each older key follow.
-//! Behind the word `#disabled` they are a disabled account's. The realm's are its name, the clock skew and the greatest lifetime of a ticket,
-//! both in seconds. Where a policy is set, passwords are guarded or logins by certificate are answered, two fields follow: words with a
-//! comma between each two, and what logins by certificate are answered by, or `-`. The words are `limits-des3`, `forwardable`, `proxiable`,
-//! `renewable=604800` with the greatest renewable life in seconds, `guards-passwords`, and `pkinit`, in this order. `specs/Lines` has what
-//! each line is written as, and `specs/Reading` how a text is read.
+//! A tab, and no blank, is between each two fields. An account's are its name as RFC 1964 writes it, the suite, the kvno, the salt or `-`,
+//! and the key. Where it has attributes or older keys, its last second, its greatest lifetime, its marks and each older key follow. Behind
+//! the word `#disabled` they are a disabled account's. The realm's are its name, the clock skew and the greatest lifetime of a ticket, both
+//! in seconds. Where a policy is set, passwords are guarded or logins by certificate are answered, two fields follow: words with a comma
+//! between each two, and what logins by certificate are answered by, or `-`. The words are `limits-des3`, `forwardable`, `proxiable`,
+//! `renewable=604800` with the greatest renewable life in seconds, `guards-passwords`, `pkinit-agility`, `pkinit-sha1` and `pkinit`, in
+//! this order. `specs/Lines` has what each line is written as, and `specs/Reading` how a text is read.
 //!
 //! [`read_lines`] returns the lines that a text writes, or its first fault with the number of its line. [`text_of`] writes lines, and what
 //! is written is read as the same lines (law `written_is_read`). [`add`], [`change_key`], [`keep_key`], [`purge`], [`allow`], [`remove`],

@@ -26,8 +26,8 @@ fn is_guarding(realm: Option<&RealmLine>, name: &[GeneralStringAsn1]) -> bool
     }
 }
 
-/// The account as a realm keeps it that guards its password or doesn't. Where it does, an account whose key is of a password has the mark that
-/// there is no ticket for it as a service.
+/// The account as a realm keeps it that guards its password or doesn't. Where it does, an account whose key is of a password has the mark
+/// that there is no ticket for it as a service.
 pub(crate) fn guarded_account(guards: bool, account: Account) -> Account
     ensures { result ≡ guarded_account guards account }
 {

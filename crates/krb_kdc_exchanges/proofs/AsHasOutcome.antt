@@ -1,12 +1,10 @@
 -- The table of AS requests has an outcome: each part of it has one.
 use Rattle.std.proofs.Common.{◌≡◌, ◌<◌, ℕ, ◌^◌, Bool, true, false, not, ◌&&◌, List, length, Option, None, Some, Result, Ok, Err, refl, sym, subst, inl, inr}
-use Rattle.picky_asn1.specs.Numbers.{is_number}
 use Rattle.asn1_leaves.specs.declared.date.GeneralizedTime.{GeneralizedTime}
 use Rattle.krb_tickets.specs.Grant.{GrantRecord}
 use Rattle.krb_time.specs.Skew.{is_far}
 use Rattle.krb_crypto.specs.declared.suite.CipherSuite.{CipherSuite}
 use Rattle.krb_realm_accounts.specs.Account.{AccountRecord}
-use Rattle.krb_messages.specs.Names.{is_same_realm}
 use Rattle.krb_messages.specs.declared.data_types.pa_data.PaData.{PaData}
 use Rattle.krb_messages.specs.declared.data_types.pa_enc_timestamp.PaEncTsEnc.{PaEncTsEnc}
 use Rattle.krb_messages.specs.declared.data_types.principal_name.PrincipalName.{PrincipalName}
