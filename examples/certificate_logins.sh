@@ -186,6 +186,7 @@ mit_rows() {
     try "triple DES: session keys of it" yes "" mit_suite des3-cbc-sha1
     try "triple DES: login" no "KDC_ERR_ETYPE_NOSUPP (14)" login
     try "session keys of each suite" yes "" mit_any_suite
+    try "the cost of a login" yes "" cost krb5kdc "$bridge"
     sizes mit_with
     refused_rows
     # krb5kdc itself doesn't sign by it.
@@ -317,6 +318,25 @@ heimdal_kinit() {
     LD_LIBRARY_PATH=$libraries by_stock kinit.heimdal "--pk-user=FILE:$folder/$1.pem,$folder/$1.key" "--x509-anchors=FILE:$folder/anchor.pem" "$2@EXAMPLE.COM" </dev/null
 }
 
+# spent PROCESS..: the processor time of these, in hundredths of a second.
+spent() {
+    for process in "$@"; do
+        sed 's/.*) //' "/proc/$process/stat"
+    done | awk '{ sum += $12 + $13 } END { print sum }'
+}
+
+# cost NAME PROCESS..: what 100 logins of MIT's kinit by certificate cost the KDC's processes.
+cost() {
+    title=$1
+    shift
+    before=$(spent "$@")
+    for _ in $(seq 100); do
+        mit_kinit client user >>"$work/log" 2>&1 || return 1
+    done
+    after=$(spent "$@")
+    echo "$title: $(((after - before) / 10)).$(((after - before) % 10)) milliseconds of processor for a login by certificate"
+}
+
 # Stock clients, by the policy of the realm.
 stock_rows() {
     try "MIT's kinit without pkinit-agility" no "" mit_kinit client user
@@ -329,6 +349,8 @@ stock_rows() {
         try "$client's kinit: another user's certificate" no "" "${client}_kinit" alice user
         try "$client's kinit: an expired certificate" no "" "${client}_kinit" late user
     done
+    # shellcheck disable=SC2046
+    try "the cost of a login" yes "" cost krb_kdcd $(pgrep -P "$bridge")
     try "krb_login with pkinit-agility" yes "" login -s "host/$host"
     uses "our realm with pkinit-agility"
     try "without the word" yes "" worded ""
