@@ -1,14 +1,15 @@
 #!/bin/sh
-# krb_login logs in by certificate (PKINIT, RFC 4556) at MIT's krb5kdc with its PKINIT module on 127.0.0.1, and at a realm of this project,
-# krb_kdcd behind krb_listen, with databases, keys and certificates that are made anew: by RSA keys of 2048, 3072 and 4096 bits, from PEM
-# and DER, PKCS#8 and PKCS#1, and at krb5kdc for each suite of AES. MIT's klist, kvno and gss-client use its caches. It is refused with
-# another authority, an expired certificate, another user's certificate or key, a certificate for another name, and where the KDC's
-# certificate doesn't name krbtgt; and files and arguments that it doesn't take are named. MIT's and Heimdal's kinit log in by certificate
-# at our realm where its line has the word `pkinit-agility`, and don't without it. Prints what each gave; the status is 1 where one differs
-# from what it should, and 2 where a tool is missing. All files are in a temporary folder, and what is started is ended.
+# krb_login logs in by certificate (PKINIT, RFC 4556) on 127.0.0.1: at MIT's krb5kdc with its PKINIT module, at Heimdal's kdc, at the KDC of
+# Samba's domain controller, and at a realm of this project, krb_kdcd behind krb_listen. Databases, keys and certificates are made anew. Keys
+# are of RSA with 2048, 3072 and 4096 bits. At krb5kdc and krb_kdcd they come from PEM and DER, PKCS#8 and PKCS#1, and at krb5kdc the session
+# keys are of each suite of AES. MIT's klist, kvno and gss-client use its caches. It is refused with another authority, an expired
+# certificate, another user's certificate or key, a certificate for another name, and where the KDC's certificate doesn't name krbtgt; and
+# files and arguments that it doesn't take are named. MIT's and Heimdal's kinit log in by certificate at our realm where its line has the
+# word `pkinit-agility`, and don't without it. Prints what each gave, and what a login costs krb5kdc and krb_kdcd; the status is 1 where one
+# differs from what it should, and 2 where a tool is missing. All files are in a temporary folder, and what is started is ended.
 #
-# Usage: examples/certificate_logins.sh [mit|realm..]: at MIT's krb5kdc, or at the KDCs that are named. KRB_LOGIN, KRB_KDCD and KRB_ACCOUNTS
-# may name programs that are built already.
+# Usage: examples/certificate_logins.sh [mit|heimdal|samba|realm..]: at MIT's krb5kdc, or at the KDCs that are named. KRB_LOGIN, KRB_KDCD and
+# KRB_ACCOUNTS may name programs that are built already. Debian's samba is needed for Samba's.
 set -u
 script=certificate_logins
 top=$(cd "$(dirname "$0")/.." && pwd)
