@@ -314,9 +314,20 @@ mit_kinit() {
     by_stock kinit -X "X509_user_identity=FILE:$folder/$1.pem,$folder/$1.key" -X "X509_anchors=FILE:$folder/anchor.pem" "$2@EXAMPLE.COM" </dev/null
 }
 
-# heimdal_kinit NAME USER: the same of Heimdal's.
+# heimdal_kinit NAME USER: the same of Heimdal's. Without pkinit_dh_min_bits it agrees in group 2, with which it gets error 65.
 heimdal_kinit() {
-    LD_LIBRARY_PATH=$libraries by_stock kinit.heimdal "--pk-user=FILE:$folder/$1.pem,$folder/$1.key" "--x509-anchors=FILE:$folder/anchor.pem" "$2@EXAMPLE.COM" </dev/null
+    configuration "127.0.0.1:$port" "pkinit_dh_min_bits = ${min_bits:-1024}" >"$work/heimdal.conf"
+    KRB5_CONFIG=$work/heimdal.conf KRB5CCNAME=FILE:$work/stock TZ=UTC LD_LIBRARY_PATH=$libraries \
+        kinit.heimdal "--pk-user=FILE:$folder/$1.pem,$folder/$1.key" "--x509-anchors=FILE:$folder/anchor.pem" "$2@EXAMPLE.COM" </dev/null
+}
+
+# heimdal_in_group_2: the same in the group that it takes by default.
+heimdal_in_group_2() {
+    min_bits=0
+    heimdal_kinit client user
+    status=$?
+    min_bits=
+    return "$status"
 }
 
 # spent PROCESS..: the processor time of these, in hundredths of a second.
@@ -352,6 +363,7 @@ stock_rows() {
     done
     # shellcheck disable=SC2046
     try "the cost of a login" yes "" cost krb_kdcd $(pgrep -P "$bridge")
+    try "Heimdal's kinit in group 2" no "DH parameters not accepted" heimdal_in_group_2
     try "krb_login with pkinit-agility" yes "" login -s "host/$host"
     uses "our realm with pkinit-agility"
     try "without the word" yes "" worded ""
