@@ -34,7 +34,7 @@ need krb5kdc krb5-kdc
 need kadmin.local krb5-admin-server
 need kvno krb5-user
 need gss-client krb5-gss-samples
-case " $* " in *" samba "*) need samba samba && need samba-tool samba ;; esac
+case " $* " in *" samba "*) need samba samba && need samba-tool samba && need ldbmodify ldb-tools ;; esac
 if ! ls /usr/lib/*/krb5/plugins/preauth/pkinit.so >/dev/null 2>&1; then
     echo "$script: MIT's PKINIT module is missing (Debian: krb5-pkinit)" >&2
     missing=1
@@ -234,6 +234,14 @@ domain() {
     samba-tool "$@" -s "$work/domain/etc/smb.conf"
 }
 
+secret='Correct horse battery staple 1'
+
+# typed_login USER: krb_login by the password.
+typed_login() {
+    echo "$secret" >"$work/secret"
+    "$top/bridges/krb_connect" "127.0.0.1:$port" -- "$KRB_LOGIN" -c "$work/cache" -p "$work/secret" "$1"
+}
+
 # A domain controller of which its KDC alone runs, with the certificate that the KDC has; sets port and bridge.
 start_domain() {
     configuration 127.0.0.1:PORT "" >"$work/domain.in"
@@ -247,6 +255,11 @@ CONF
         samba-tool domain provision "--targetdir=$work/domain" --realm=EXAMPLE.COM --domain=EXAMPLE --server-role=dc --dns-backend=NONE \
             --host-name=dc1 --host-ip=127.0.0.1 "--adminpass=$(openssl rand -hex 16)Aa" --option="vfs objects = acl_xattr xattr_tdb"
         sed -i "/server services/d; /log file/d; s|^\\[global]|&\n interfaces = lo\n bind interfaces only = yes\n log file = $work/log.%m|" "$work/domain/etc/smb.conf"
+        domain user create typed "$secret"
+        domain user create old "$secret"
+        # The account `old` keeps its key of RC4 alone, as one whose password is older than AES.
+        printf 'dn: CN=old,CN=Users,DC=example,DC=com\nchangetype: modify\ndelete: supplementalCredentials\n' |
+            ldbmodify -H "$work/domain/private/sam.ldb" --controls=local_oid:1.3.6.1.4.1.7165.4.3.12:0
         domain user create user --random-password
         domain user create alice --random-password
         domain user create server --random-password
@@ -274,6 +287,12 @@ samba_rows() {
     try "another user, by its own certificate" yes "" by alice.pem alice.key anchor.pem alice@EXAMPLE.COM
     refused_by_stock
     refused_kdcs mit_with "the reply isn't signed by the realm"
+    kdc_has "$work/2048" kdc
+    mit_with "$work/2048" kdc
+    try "by certificate, a realm in lower case" no "hint: realms are mostly written in upper case" by client.pem client.key anchor.pem user@example.com
+    try "by password" yes "" typed_login typed@EXAMPLE.COM
+    try "by password, a realm in lower case" no "hint: realms are mostly written in upper case" typed_login typed@example.com
+    try "by password, keys of RC4 alone" no "RC4 is never asked for: an account with RC4 keys alone needs a new password" typed_login old@EXAMPLE.COM
 }
 
 # ==== this project's realm

@@ -67,7 +67,8 @@ fn advice_for(login: &Login<'_>, refusal: LoginRefusal) -> &'static str {
         LoginRefusal::NotHinted(HintRefusal::Refused(code))
         | LoginRefusal::NotTaken(TakeRefusal::Refused(code)) => advice_for_code(login, code),
         // A domain controller names its realm in upper case, whatever it was asked for.
-        LoginRefusal::NotTaken(TakeRefusal::NotAsked) if is_lower_case(login) => UPPER_CASE,
+        LoginRefusal::NotTaken(TakeRefusal::NotAsked | TakeRefusal::NotTrusted)
+            if is_lower_case(login) => { UPPER_CASE }
         _ => "",
     }
 }
