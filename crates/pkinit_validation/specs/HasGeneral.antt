@@ -6,7 +6,7 @@ use Rattle.krb_time.specs.Skew.{is_far}
 use Rattle.krb_constants.specs.declared.error_codes.TheConstants.{KDC_ERR_KEY_TOO_WEAK, KDC_ERR_PADATA_TYPE_NOSUPP, KDC_ERR_PREAUTH_FAILED, KRB_AP_ERR_SKEW}
 use Rattle.krb_messages.specs.Bodies.{body_bytes}
 use Rattle.krb_messages.specs.declared.messages.kdc_req_body.KdcReqBody.{KdcReqBody}
-use Rattle.decision_tables.specs.Tables.{and_then, done}
+use Rattle.decision_tables.specs.Tables.{and_then, done, refuse}
 use Rattle.decision_tables.proofs.Outcomes.{HasOutcome, has_asked, has_done, has_needed, has_refused, has_then}
 use Rattle.krb_kdc_exchanges.specs.PkinitCalls.{AgreedRecord, PkinitCallRecord}
 use Rattle.x509_keys.specs.KeyFunctions.{KeysRecord}
@@ -31,7 +31,8 @@ use Rattle.pkinit_validation.specs.GeneralTable.{general_agreed, general_table, 
 has_second : (bytes : Bytes) (field : Option Raw) → HasOutcome (second_checksum bytes field)
 has_second bytes None = has_done (Ok tt)
 has_second bytes (Some field) =
-    has_asked (IsPaChecksum2 field) (sole_pa_checksum field) (done (Err KDC_ERR_PREAUTH_FAILED)) _ (has_done (Err KDC_ERR_PREAUTH_FAILED))
+    has_asked (IsPaChecksum2 field) (sole_pa_checksum field) (done (Err KDC_ERR_PREAUTH_FAILED))
+    (λ checksum. refuse {T = Unit {0}} (not (is_checksum_of bytes checksum.0)) KDC_ERR_PREAUTH_FAILED (done (Ok tt))) (has_done (Err KDC_ERR_PREAUTH_FAILED))
     (λ checksum c. has_refused {T = Unit {0}} (not (is_checksum_of bytes checksum.0)) KDC_ERR_PREAUTH_FAILED (done (Ok tt)) (λ _. has_done (Ok tt)))
 
 has_covers : (body : KdcReqBody) (pack : ExtensibleAuthPack) → HasOutcome (covers body pack)

@@ -6,7 +6,7 @@ use Rattle.picky_asn1_der.specs.Raw.{Raw}
 use Rattle.picky_asn1_der.specs.Splits.{raw_bytes}
 use Rattle.krb_constants.specs.declared.error_codes.TheConstants.{KDC_ERR_DIGEST_IN_SIGNED_DATA_NOT_ACCEPTED}
 use Rattle.decision_tables.specs.Tables.{and_then_told, done}
-use Rattle.decision_tables.proofs.Outcomes.{HasOutcome, has_asked, has_done, has_refused, has_then}
+use Rattle.decision_tables.proofs.Outcomes.{HasOutcome, has_asked, has_done, has_refused}
 use Rattle.x509_keys.specs.KeyFunctions.{KeysRecord}
 use Rattle.x509_certificates.specs.declared.certificate.Certificate.{Certificate}
 use Rattle.cms_signed_data.specs.Digests.{digest_by}
@@ -17,19 +17,19 @@ use Rattle.pkinit_validation.specs.Expected.{ExpectedRecord}
 use Rattle.pkinit_validation.specs.HasOutcomes.{has_accepted, has_told}
 use Rattle.pkinit_validation.specs.Refusals.{code_of}
 use Rattle.pkinit_validation.specs.declared.refusal.TrustRefusal.TheVariants.{InvalidSignature}
-use Rattle.pkinit_validation.specs.GeneralTrust.{IsAlgorithm, IsNamedBy, by_certificate, certificates_of, general_signed_by, general_signer, sid_of, sole_algorithm, sole_named, takes_digest, trusted_among, verifies_under}
+use Rattle.pkinit_validation.specs.GeneralTrust.{IsAlgorithm, IsNamedBy, by_algorithm, by_certificate, certificates_of, general_signed_by, general_signer, sid_of, sole_algorithm, sole_named, takes_digest, trusted_among, verified_by, verifies_under}
 use Rattle.pkinit_validation.specs.declared.policies.policy.GeneralPolicy.{GeneralPolicy}
 
 has_signed_by : (keys : KeysRecord) (certificate : Certificate) (parts : GeneralParts) → HasOutcome (general_signed_by keys certificate parts)
 has_signed_by keys certificate parts =
-    has_refused {T = Unit {0}} (not (pointwise nat_eq (digest_by parts.algorithm (content_of parts.info)) parts.digest)) InvalidSignature _
-    (λ _. has_asked (IsAlgorithm parts.info.content.0.signer_infos.0.signature_algorithm) (sole_algorithm parts.info.content.0.signer_infos.0.signature_algorithm) (done (Err InvalidSignature)) _
-    (has_done (Err InvalidSignature))
+    has_refused {T = Unit {0}} (not (pointwise nat_eq (digest_by parts.algorithm (content_of parts.info)) parts.digest)) InvalidSignature (by_algorithm keys certificate parts)
+    (λ _. has_asked (IsAlgorithm parts.info.content.0.signer_infos.0.signature_algorithm) (sole_algorithm parts.info.content.0.signer_infos.0.signature_algorithm) (done (Err InvalidSignature))
+    (verified_by keys certificate parts) (has_done (Err InvalidSignature))
     (λ algorithm a. has_refused {T = Unit {0}} (not (verifies_under keys certificate parts algorithm)) InvalidSignature (done (Ok tt)) (λ _. has_done (Ok tt))))
 
 has_by_certificate : (keys : KeysRecord) (expected : ExpectedRecord) (parts : GeneralParts) (read : ReadRecord) → HasOutcome (by_certificate keys expected parts read)
 has_by_certificate keys expected parts read =
-    has_then {A = Unit {0}} (accepted keys expected read) (λ _. general_signed_by keys read.certificate parts) (has_accepted keys expected read)
+    has_told (λ error. error) (accepted keys expected read) (λ _. general_signed_by keys read.certificate parts) (has_accepted keys expected read)
     (λ _ _. has_signed_by keys read.certificate parts)
 
 has_among : (keys : KeysRecord) (expected : ExpectedRecord) (parts : GeneralParts) (certificates : List Raw) → HasOutcome (trusted_among keys expected parts certificates)
