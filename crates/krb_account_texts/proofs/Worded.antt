@@ -105,7 +105,7 @@ abbrev from_guarding : Policy → Bool → Bool → List (List ℕ)
 from_guarding policy guards is = word_if guards (codes "guards-passwords") ++ from_agility policy is
 
 abbrev from_renewable : Policy → Bool → Bool → List (List ℕ)
-from_renewable policy guards is = word_if (nat_lt 0 policy.renewable_life) (renewable_word policy.renewable_life) ++ from_guarding guards is
+from_renewable policy guards is = word_if (nat_lt 0 policy.renewable_life) (renewable_word policy.renewable_life) ++ from_guarding policy guards is
 
 abbrev from_proxiable : Policy → Bool → Bool → List (List ℕ)
 from_proxiable policy guards is = word_if policy.proxiable (codes "proxiable") ++ from_renewable policy guards is

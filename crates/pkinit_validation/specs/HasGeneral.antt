@@ -13,7 +13,8 @@ use Rattle.x509_keys.specs.KeyFunctions.{KeysRecord}
 use Rattle.x509_keys.specs.KeyFunctions.TheirValue.{WholeValue}
 use Rattle.cms_signed_data.specs.GeneralContents.{GeneralParts, IsGeneralContent, content_of}
 use Rattle.cms_signed_data.specs.GeneralLaws.{one_general}
-use Rattle.pkinit_messages.specs.AuthPacks.{IsExtensibleAuthPack, are_in_order, checksum_in, sole_extensible_auth_pack, time_in, value_in}
+use Rattle.pkinit_messages.specs.AuthPacks.{IsExtensibleAuthPack, are_in_order, authenticator_in, checksum_in, kdfs_in, sole_extensible_auth_pack, time_in, value_in}
+use Rattle.pkinit_messages.specs.ChosenKdfs.{first_known}
 use Rattle.pkinit_validation.specs.Checksums.{IsPaChecksum2, is_checksum_of, second_checksum_in, sole_pa_checksum}
 use Rattle.pkinit_messages.specs.declared.agility.auth_pack.ExtensibleAuthPack.{ExtensibleAuthPack}
 use Rattle.pkinit_validation.specs.AgreementBytes.{agreement_bytes}
@@ -45,7 +46,8 @@ has_fields body pack =
     has_refused {T = FieldsRecord} (not (are_in_order pack)) KDC_ERR_PREAUTH_FAILED _
     (λ _. has_needed (value_in pack) KDC_ERR_PREAUTH_FAILED _
     (λ value v. has_needed (time_in pack) KDC_ERR_PREAUTH_FAILED _
-    (λ time t. has_then {A = Unit {0}} (covers body pack) _ (has_covers body pack) (λ _ _. has_done (Ok _)))))
+    (λ time t. has_then {A = Unit {0}} (covers body pack) (λ _. done (Ok (record { value = value; time = time; nonce = (authenticator_in pack).nonce.0; kdf = first_known (kdfs_in pack) }))) (has_covers body pack)
+    (λ _ _. has_done (Ok (record { value = value; time = time; nonce = (authenticator_in pack).nonce.0; kdf = first_known (kdfs_in pack) }))))))
 
 has_agreed : (keys : KeysRecord) (judging : JudgingRecord) (fields : FieldsRecord) → HasOutcome (general_agreed keys judging fields)
 has_agreed keys judging fields =
