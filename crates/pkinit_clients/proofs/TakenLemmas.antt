@@ -1,5 +1,5 @@
 -- What the cases behind a value that was read, or a part that passed, give, the table gives.
-use Rattle.std.proofs.Common.{Result, Ok, Err, inl}
+use Rattle.std.proofs.Common.{Result, Ok, Err, inl, inr, refl}
 use Rattle.decision_tables.specs.One.{IsSole}
 use Rattle.decision_tables.specs.Tables.{Table, and_then, ask}
 use Rattle.pkinit_clients.specs.Faults.{IsTakenAs}
@@ -17,3 +17,9 @@ pub taken_then : {A T : Type 0} (t : Table (Result A ReplyFault)) (rest : A → 
 taken_then t rest a (Ok x) p g = inl (a, p, g)
 taken_then t rest a (Err NotTrusted) p g = inl (a, p, g)
 taken_then t rest a (Err Memory) p g = tt
+
+-- what a part refuses, the table refuses
+pub refused_then : {A T : Type 0} (t : Table (Result A ReplyFault)) (rest : A → Table (Result T ReplyFault)) (fault : ReplyFault)
+    → IsTakenAs {T = A} t.gives (Err fault) → IsTakenAs {T = T} (and_then t rest).gives (Err fault)
+refused_then t rest NotTrusted g = inr (NotTrusted, g, refl)
+refused_then t rest Memory g = tt
