@@ -79,7 +79,7 @@ module _ (call : CallRecord) (message : List ℕ) where
   by_given (Some octets) reply (inl (request, read, (file.Refused own, is, x))) =
       inl (λ means. unasked call (refused_rows own.is_offered) (rows_of own_policy means) message request reply (offers means own.is_offered is.0) read is.1 x)
   by_given (Some octets) reply (inl (request, read, (file.Means means policy, are, x))) =
-      inr ((request, read, are.0), (means, are.1.0, subst (λ (p : Option GeneralPolicy). Replies call (rows_of p means) message reply) are.1.1 x))
+      inr ((request, read, are.0), (means, are.1, subst (λ (p : Option GeneralPolicy). Replies call (rows_of p means) message reply) are.2 x))
   by_given (Some octets) reply (inr (none, further)) = inl (λ means. inr (none, further))
 
   pub answered_by : (own : Option (List ℕ)) (result : Result (Vec ℕ Global) LookupRefusal)

@@ -15,7 +15,7 @@ returns-then-not-is_by_certificate c =
     (refl, none_first (first_of PA_PK_AS_REQ (padata_in c.args.request.now)) c.is_by_certificate.result c.is_by_certificate.ensures c.if-not-is_by_certificate.true)
 
 pub returns-in-Ok : goal.returns-in-Ok
-returns-in-Ok c = (sym c.is_by_certificate.ensures ∙ c.if-not-is_by_certificate.false, (c.in-Ok.ensures, c.general_policy.ensures))
+returns-in-Ok c = (sym c.is_by_certificate.ensures ∙ c.if-not-is_by_certificate.false, c.in-Ok.ensures, c.general_policy.ensures)
 
 pub returns-in-Err : goal.returns-in-Err
 returns-in-Err c =
