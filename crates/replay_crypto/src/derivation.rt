@@ -3,6 +3,7 @@
 use crate::row::Vector;
 use crate::sealing::is;
 use krb_crypto::CipherSuite;
+use krb_messages::data_types::PrincipalName;
 use picky_asn1::oid::ObjectIdentifier;
 use picky_asn1_der::read_whole;
 use pkinit_messages::agility::{Kdf, KdfContext, PartyName, agile_reply_bytes, derived_key};
@@ -16,17 +17,30 @@ pub(crate) fn is_derived(alloc: Global, row: &Vector<'_>) -> bool {
     let (Some(client), Some(service)) = (party(alloc, client), party(alloc, service)) else {
         return false;
     };
-    let context = KdfContext {
-        realm: &client.realm.0,
-        client: Some(&client.principal_name.0),
-        service: Some(&service.principal_name.0),
-        as_req,
-        pk_as_rep: rep,
-    };
+    let context = context_of(&client, &service, as_req, rep);
     match function(alloc, row.usage()) {
         Some(kdf) => is_key(alloc, row.size(), kdf, secret, &context, key),
         None => key.is_empty(),
     }
+}
+
+fn context_of<'a>(
+    client: &'a PartyName,
+    service: &'a PartyName,
+    as_req: &'a [u8],
+    pk_as_rep: &'a [u8],
+) -> KdfContext<'a> {
+    KdfContext {
+        realm: &client.realm.0,
+        client: name_of(client),
+        service: name_of(service),
+        as_req,
+        pk_as_rep,
+    }
+}
+
+fn name_of(party: &PartyName) -> Option<&PrincipalName> {
+    Some(&party.principal_name.0)
 }
 
 fn is_key(
